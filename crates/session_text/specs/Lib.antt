@@ -1,0 +1,4 @@
+pub mod Causes
+pub mod Pieces
+pub mod Lines
+pub mod Statuses
