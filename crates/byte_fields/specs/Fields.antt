@@ -1,5 +1,5 @@
 -- Fields of bytes: reading from left to right with the first fault, and the bytes of a number.
-use Rattle.std.specs.Prelude.{◌≡◌, ℕ, ◌-◌, List, length, take, drop, Result, Ok, Err, nat_lt, if◌then◌else◌}
+use Rattle.std.specs.Prelude.{◌≡◌, ℕ, ◌-◌, ◌<◌, List, length, take, drop, slice_index, Result, Ok, Err, nat_lt, if◌then◌else◌}
 use Rattle.std.specs.Int.{Width, byte_len, from_le_bytes, to_le_bytes}
 use Rattle.gd_variant.specs.declared.message.Bad.{Bad}
 use Rattle.gd_variant.specs.declared.message.Why.{Why}
@@ -9,6 +9,10 @@ use Rattle.byte_fields.specs.declared.fault.ReadError.{ReadError}
 use Rattle.byte_fields.specs.declared.fault.ReadError.TheVariants as errors
 use Rattle.byte_fields.specs.declared.fault.CodecStop.{CodecStop}
 use Rattle.byte_fields.specs.declared.fault.CodecStop.TheVariants as stops
+
+-- each number of a list is a byte
+abbrev pub IsBytes : List ℕ → Type 0
+IsBytes bytes = (i : ℕ) → slice_index bytes i < 256
 
 -- the next step takes what a step gave; the first fault ends it
 infixl 10 ◌>>=◌
