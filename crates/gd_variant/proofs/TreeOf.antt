@@ -102,9 +102,9 @@ pair_back f g each y = ap₂ (λ (k : Variant) (v : Variant). roll-Pair (record 
 inner_back : (v : Variant) → value_of (inner_tree v) ≡ v
 inner_back = ind-Variant (λ v. value_of (inner_tree v) ≡ v) (λ p. pair_of (inner_pair p) ≡ p)
     (λ x y is. subst (λ z. value_of (inner_tree (roll-Variant z)) ≡ roll-Variant z) is
-        (ap value_of (inner_layer _) ∙ layer_back (λ e. e.0) (λ e. e.0) (λ e. e.1) (λ e. e.1) y))
+    (ap value_of (inner_layer _) ∙ layer_back (λ e. e.0) (λ e. e.0) (λ e. e.1) (λ e. e.1) y))
     (λ x y is. subst (λ z. pair_of (inner_pair (roll-Pair z)) ≡ roll-Pair z) is
-        (ap pair_of (inner_pair_layer _) ∙ pair_back (λ e. e.0) (λ e. e.0) (λ e. e.1) y))
+    (ap pair_of (inner_pair_layer _) ∙ pair_back (λ e. e.0) (λ e. e.0) (λ e. e.1) y))
 
 plain_back : (v : Variant) → value_of (plain v) ≡ v
 plain_back v = ap value_of (plain_is v) ∙ inner_back v
