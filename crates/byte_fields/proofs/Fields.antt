@@ -1,8 +1,8 @@
 -- Tools for readers that may fail, and the laws of numbers.
-use Rattle.std.proofs.Common.{◌≡◌, ℕ, ◌+◌, ◌%◌, ◌^◌, ◌<◌, ◌≤◌, Bool, true, false, cond, ltb, List, [], ◌∷◌, ◌++◌, length, take, drop, Result, Ok, Err, refl, sym, ap, subst, arith, inl, inr, ◌⊎◌}
+use Rattle.std.proofs.Common.{◌≡◌, ℕ, ◌+◌, ◌-◌, ◌%◌, ◌^◌, ◌<◌, ◌≤◌, Bool, true, false, cond, ltb, List, [], ◌∷◌, ◌++◌, length, take, drop, Result, Ok, Err, refl, sym, ap, ◌∙◌, subst, arith, inl, inr, ◌⊎◌}
 use Rattle.std.specs.Int.{Width, w8, w16, w32, w64, byte_len, from_le_bytes, to_le_bytes}
 use Rattle.std.proofs.lemmas.Bool.{cases_lt, ltb-false, le-ltb}
-use Rattle.std.proofs.lemmas.List.{take_at, drop_at, take-append-drop, length-append, length-take, get_or-drop, get_or-take, get_or_past}
+use Rattle.std.proofs.lemmas.List.{take_at, drop_at, take-append-drop, length-append, length-take, length-drop, get_or-drop, get_or-take, get_or_past}
 use Rattle.std.proofs.lemmas.Nat.{le_bytes_2, le_bytes_4, le_bytes_8, from_le_bytes-to_le_bytes_2, from_le_bytes-to_le_bytes_4, from_le_bytes-to_le_bytes_8}
 use Rattle.byte_fields.specs.declared.fault.Fault.{Fault}
 use Rattle.gd_variant.specs.declared.message.Why.TheVariants.{Short}
@@ -23,6 +23,11 @@ IsBytes-take n bytes h i =
 pub bind_ok : {A B : Type 0} (r : Result A Fault) (f : A → Result B Fault) (y : B) → (r >>= f) ≡ Ok y → (x : A) × (r ≡ Ok x) × (f x ≡ Ok y)
 bind_ok (Ok x) f y e = (x, refl, e)
 bind_ok (Err d) f y e = absurd cc
+
+-- the same, where what follows names the value: a chain of lets would copy the reading before it each time
+pub with_ok : {A B P : Type 0} (r : Result A Fault) (f : A → Result B Fault) (y : B) → (r >>= f) ≡ Ok y → ((x : A) → r ≡ Ok x → f x ≡ Ok y → P) → P
+with_ok (Ok x) f y e k = k x refl e
+with_ok (Err d) f y e k = absurd cc
 
 -- a test that did not fail
 pub guard_ok : {A : Type 0} (b : Bool) (d : Fault) (x y : A) → cond b (Err d) (Ok x) ≡ Ok y → (b ≡ false) × (x ≡ y)
@@ -120,6 +125,15 @@ number_again w limit wide n rest lt =
 pub length-word : (w : Width) (limit : ℕ) (wide : IsWide w limit) (n : ℕ) → length (word w n) ≡ byte_len w
 unfolding word
 length-word w limit wide n = wide.len n
+
+-- a number takes its bytes
+pub number_shorter : (w : Width) (bytes : List ℕ) (x : ℕ × List ℕ) → 0 < byte_len w → number_at w bytes ≡ Ok x → length x.1 < length bytes
+unfolding number_at
+number_shorter w bytes x some e =
+    let g = guard_ok (ltb (length bytes) (byte_len w)) (fault (length bytes) Short) (from_le_bytes w (take (byte_len w) bytes), drop (byte_len w) bytes) x e in
+    let long : byte_len w ≤ length bytes = ltb-false _ _ g.0 in
+    let is : length x.1 ≡ length bytes - byte_len w = ap (λ y. length y.1) (sym g.1) ∙ length-drop (byte_len w) bytes in
+    omega (arith, is, long, some)
 
 -- a byte is itself
 pub byte_again : (n : ℕ) (rest : List ℕ) → number_at w8 (n ∷ rest) ≡ Ok (n, rest)
