@@ -64,6 +64,12 @@ pub record HasReadCause {T : Type 0} (before now : ℕ) (result : Result T ReadS
   pub later : before ≤ now
   pub failed : result ≡ Err stop.Failed → Rose before now
 
+-- The bytes that are held don't decide what is next: they have no line feed, are not too many, and more may follow.
+pub record IsOpen (reader : Reader) : Type 0 where
+  pub no_feed : position_or_len is_line_feed reader.bytes ≡ length reader.bytes
+  pub short : length reader.bytes ≤ reader.most
+  pub more : reader.ended ≡ false
+
 -- The bytes that are held decide what is next, whatever follows them; at the end of the source nothing does.
 pub record Settled (old : Reader) (found : NextLine) (new : Reader) : Type 0 where
   pub most : new.most ≡ old.most
@@ -72,5 +78,5 @@ pub record Settled (old : Reader) (found : NextLine) (new : Reader) : Type 0 whe
 
 abbrev pub Settles : Reader → Result (Option NextLine) OutOfMemory → Reader → Type 0
 Settles old (Ok (Some found)) new = Settled old found new
-Settles old (Ok None) new = (new ≡ old) × (old.ended ≡ false) × (length old.bytes ≤ old.most)
+Settles old (Ok None) new = (new ≡ old) × IsOpen old
 Settles old (Err e) new = new ≡ old

@@ -3,7 +3,7 @@ ghost use Rattle.std.specs.Prelude.{◌≡◌, ◌+◌, ◌++◌, ◌<◌, ◌�
 ghost use Rattle.std.specs.List.{position};
 ghost use Rattle.session_text.specs.Causes.{HasCause};
 ghost use Rattle.session_text.specs.Pieces.{Takes};
-ghost use Rattle.session_text.specs.Lines.{Reader, fresh, is_line_feed, room, unread, HasReadCause, ReadsLine, Settles};
+ghost use Rattle.session_text.specs.Lines.{IsOpen, Reader, fresh, is_line_feed, room, unread, HasReadCause, ReadsLine, Settles};
 
 use crate::source::Source;
 use gd_variant::{Bytes, OutOfMemory};
@@ -176,8 +176,7 @@ impl LineReader {
 
     /// Takes one more piece.
     fn refill<S: Source>(&mut self, source: &mut S) -> Result<(), ReadStop>
-        requires open { self.old.ended ≡ false }
-        requires short { length self.old.bytes ≤ self.old.most }
+        requires { IsOpen self.old }
         ensures unread { unread self.new (S.left source.new) ≡ unread self.old (S.left source.old) }
         ensures most { self.new.most ≡ self.old.most }
         ensures progress { OnOk result (room self.new < room self.old) }
@@ -193,11 +192,12 @@ impl LineReader {
         Ok(())
     }
 
-    /// The next line. No byte is taken from the source once the answer is known.
+    /// The next line. The source is asked only while the bytes that are held don't decide.
     pub fn next<S: Source>(&mut self, alloc: Global, source: &mut S) -> Result<NextLine, ReadStop>
         ensures line { (bytes : List ℕ) → unread self.old (S.left source.old) ≡ Some bytes → ReadsLine self.old.most bytes result (unread self.new (S.left source.new)) }
         ensures most { self.new.most ≡ self.old.most }
         ensures bounded { length self.new.bytes ≤ self.new.most + PIECE }
+        ensures asks { ¬ IsOpen self.old → source.new ≡ source.old }
         ensures cause { HasReadCause (S.faults source.old) (S.faults source.new) result }
     {
         loop {

@@ -1,4 +1,6 @@
 //! A reader over a source that gives little, fails, or has a line that is too long.
+ghost use Rattle.std.specs.Prelude.{◌<◌};
+
 use super::*;
 use std::alloc::Global;
 
@@ -14,7 +16,7 @@ fn answers(alloc: Global, text: &[u8], most: usize, piece: usize, failing: u64) 
     let mut told = String::new(alloc);
     for _ in 0..20 {
         let mark = match reader.next(alloc, &mut source) {
-            Ok(NextLine::Line(line)) => char::from_digit(line.as_slice().len() as u32 % 10, 10)?,
+            Ok(NextLine::Line(line)) => char::from_digit((line.as_slice().len() % 10) as u32, 10)?,
             Ok(NextLine::Long) => 'L',
             Ok(NextLine::End) => 'e',
             Err(ReadStop::Failed) => 'f',

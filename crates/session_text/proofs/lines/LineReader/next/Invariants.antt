@@ -1,11 +1,12 @@
 use Rattle.std.proofs.Common.{◌≡◌, ◌≤◌}
-use Rattle.session_text.specs.Lines.{unread, room}
+use Rattle.session_text.specs.Lines.{IsOpen, unread, room}
 use Rattle.session_text.proofs.lines.LineReader.next.Given as goal
 
 abbrev pub invariant-loop-found : goal.invariant-loop-found
 invariant-loop-found g l = record {
   unread : unread l.self (g.S.Source.left l.source) ≡ unread l.fn.self (g.S.Source.left l.fn.source);
   most : l.self.most ≡ l.fn.self.most;
+  stays : (IsOpen l.fn.self → ⊥) → (l.source ≡ l.fn.source) × (l.self ≡ l.fn.self);
   faults : g.S.Source.faults l.fn.source ≤ g.S.Source.faults l.source;
 }
 

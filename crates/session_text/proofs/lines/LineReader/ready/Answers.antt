@@ -1,5 +1,6 @@
 use Rattle.std.proofs.Common.{◌≡◌, sym, ap, ◌∙◌, arith}
-use Rattle.session_text.specs.Lines.{Reader}
+use Rattle.session_text.specs.Lines.{Reader, is_line_feed}
+use Rattle.session_text.proofs.Prefixes.{position-none}
 use Rattle.session_text.proofs.FirstLines.{line_read, feed_too_far, held_too_long, nothing_left, last_line}
 use Rattle.session_text.proofs.lines.LineReader.ready.Goals as goal
 
@@ -62,3 +63,14 @@ returns-in_ok-split_line-in-None-4-clause-settles c =
       ended = ended_of after ∙ ended_of same;
       line = λ rest ended. last_line _ c.held-held.result _ _ _ rest _ (bytes_of same) c.held-held.ensures c.in-None.ensures.place (omega (arith, c.if-held-eq0.false)) (omega (arith, c.if-held-most.false)) (ended (sym (ended_of c.self.view_is) ∙ c.if-not-ended.false)) c.in_ok-split_line-in-None-4.ensures.line (bytes_of after);
     }
+
+pub returns-in-None-2-clause-settles : goal.returns-in-None-2-clause-settles
+returns-in-None-2-clause-settles c =
+    let most : c.self.inside.most ≡ c.args.self.now.most = most_of c.self.view_is in (
+      c.find_line_feed.ensures.same,
+      record {
+        no_feed = position-none is_line_feed c.args.self.now.bytes c.in-None.ensures.place;
+        short = omega (arith, c.held-held.ensures, c.if-held-most.false);
+        more = sym (ended_of c.self.view_is) ∙ c.if-not-ended.true;
+      },
+    )
