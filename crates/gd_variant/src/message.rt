@@ -1,11 +1,9 @@
 //! Packets as plain data, and why bytes are refused.
 use crate::text::{Bytes, Text};
-use crate::value::Variant;
+use crate::value::{ValueList, Variant};
 use sqlite_items::Items;
 
 pub type IdList = Items<u32>;
-
-pub type ValueList = Items<Variant>;
 
 pub type EntryList = Items<Entry>;
 
@@ -85,7 +83,7 @@ pub enum Message {
 }
 
 /// Why bytes are no value or no packet.
-#[derive(Clone, Copy, Drop)]
+#[derive(Clone, Copy, Debug, Drop, PartialEq, Eq)]
 pub enum Why {
     Short,
     HeaderBits,
@@ -110,8 +108,9 @@ pub enum Why {
     NotBuilt,
 }
 
-/// The first wrong field of some bytes: where it begins, and why it is wrong.
-#[derive(Clone, Copy, Drop)]
+/// The first wrong field of some bytes: where it begins, counted from the start of the input, and why
+/// it is wrong.
+#[derive(Clone, Copy, Debug, Drop, PartialEq, Eq)]
 pub struct Bad {
     pub at: u32,
     pub why: Why,

@@ -59,14 +59,14 @@ pub struct Skip {
     pub why: SkipWhy,
 }
 
-#[derive(Clone, Copy, Drop)]
+#[derive(Clone, Copy, Debug, Drop, PartialEq, Eq)]
 pub enum SkipWhy {
     NoSync,
     Stale,
 }
 
 /// Why an operation or a link event is refused.
-#[derive(Clone, Copy, Drop)]
+#[derive(Clone, Copy, Debug, Drop, PartialEq, Eq)]
 pub enum Refusal {
     NoNode,
     NoSpawner,

@@ -1,0 +1,10 @@
+use Rattle.std.proofs.Common.{arith}
+use Rattle.gd_variant.specs.Tree.{plain}
+use Rattle.gd_variant.proofs.Judged.{is_too_long, is_sound_where_right}
+use Rattle.gd_variant.proofs.soundness.is_sound.Goals as goal
+
+pub returns : goal.returns
+returns c = is_sound_where_right (plain c.args.value.now) c.is_right_value.result (omega arith) (omega arith) c.is_right_value.ensures
+
+pub returns-then-len_of-gt8388608 : goal.returns-then-len_of-gt8388608
+returns-then-len_of-gt8388608 c = is_too_long (plain c.args.value.now) (omega arith)

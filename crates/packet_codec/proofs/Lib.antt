@@ -1,0 +1,5 @@
+pub mod Lists
+pub mod Ints
+pub mod Puts
+pub mod Spawns
+pub mod Packets

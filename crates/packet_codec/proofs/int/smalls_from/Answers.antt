@@ -1,0 +1,24 @@
+use Rattle.std.proofs.Common.{length}
+use Rattle.std.proofs.lemmas.Result.{err_from_is_err_and}
+use Rattle.packet_codec.specs.Lists.{filling_by}
+use Rattle.packet_codec.specs.Smalls.{small_at, smalls_at}
+use Rattle.packet_codec.proofs.Ints.{small_shorter}
+use Rattle.packet_codec.proofs.Lists.{fills_on, fills_end, fills_done, some_left, none_left}
+use Rattle.packet_codec.proofs.int.smalls_from.Goals as goal
+
+pub returns-in_err-value : goal.returns-in_err-value
+unfolding smalls_at
+returns-in_err-value c =
+    let p = err_from_is_err_and c.from_residual.result c.from_residual.ensures.1 in
+    rw (p.1, p.2) (fills_end c.in_err-value.field-0.0 small_at c.loop-rest.values c.loop-rest.rest.now (filling_by small_at (length c.args.bytes.now) c.args.bytes.now) (some_left c.loop-rest.rest.now c.loop-rest-test.ensures) c.in_err-value.ensures c.loop-rest.invariant)
+
+pub loop-rest-smaller : goal.loop-rest-smaller
+loop-rest-smaller c = small_shorter c.loop-rest.rest.now (c.in_ok-value.value, c.in_ok-value.after.now) c.in_ok-value.ensures
+
+pub loop-rest-preserved : goal.loop-rest-preserved
+loop-rest-preserved c =
+    rw c.in_ok-push.ensures.ok (fills_on small_at small_shorter c.loop-rest.values c.loop-rest.rest.now c.in_ok-value.value c.in_ok-value.after.now (filling_by small_at (length c.args.bytes.now) c.args.bytes.now) (some_left c.loop-rest.rest.now c.loop-rest-test.ensures) c.in_ok-value.ensures c.loop-rest.invariant)
+
+pub returns : goal.returns
+unfolding smalls_at
+returns c = fills_done small_at c.loop-rest.values c.loop-rest.rest.now (filling_by small_at (length c.args.bytes.now) c.args.bytes.now) (none_left c.loop-rest.rest.now c.loop-rest-test.ensures) c.loop-rest.invariant

@@ -1,0 +1,5 @@
+use Rattle.packet_codec.proofs.Packets.{round_trip}
+use Rattle.packet_codec.proofs.laws.round_trip.Goals as goal
+
+pub returns : goal.returns
+returns c = round_trip

@@ -1,0 +1,4 @@
+pub mod Lists
+pub mod Smalls
+pub mod Reading
+pub mod Packets

@@ -1,0 +1,21 @@
+//! The laws of packets, for every list of bytes.
+ghost use Rattle.std.specs.Prelude.{◌≡◌, ◌≤◌, ◌<◌, List, ℕ, Ok, length};
+ghost use Rattle.byte_fields.specs.Fields.{IsBytes};
+ghost use Rattle.gd_variant.specs.declared.message.Message.{Message};
+ghost use Rattle.packet_codec.specs.Packets.{Frames, IsWritable, read_packet, written_packet};
+
+/// What is written is read again.
+pub fn round_trip()
+    ensures { (m : Message) → IsWritable m → read_packet (written_packet m) ≡ Ok m }
+{}
+
+/// What is written is a packet of the message.
+pub fn written_frames()
+    ensures { (m : Message) → IsWritable m → Frames m (written_packet m) }
+{}
+
+/// Bytes are a message's packet exactly where they read as it.
+pub fn read_frames()
+    ensures found { (m : Message) (b : List ℕ) → IsBytes b → read_packet b ≡ Ok m → Frames m b }
+    ensures only { (m : Message) (b : List ℕ) → Frames m b → read_packet b ≡ Ok m }
+{}

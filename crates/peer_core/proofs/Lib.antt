@@ -1,0 +1,13 @@
+pub mod Lists
+pub mod Server
+pub mod ServerTree
+pub mod ServerSends
+pub mod ServerSteps
+pub mod Client
+pub mod ClientSteps
+pub mod Apart
+pub mod Taken
+pub mod Received
+pub mod Whole
+pub mod Encoding
+pub mod Takes

@@ -1,0 +1,4 @@
+pub mod FirstPath
+pub mod Histories
+pub mod Steps
+pub mod Built

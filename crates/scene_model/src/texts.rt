@@ -1,0 +1,17 @@
+//! Texts as bytes.
+ghost use Rattle.std.specs.Prelude.{◌≡◌};
+ghost use Rattle.gd_variant.specs.Words.{text_eq};
+
+use gd_variant::Text;
+
+pub fn bytes_of(text: &Text) -> &[u8]
+    ensures { result.now ≡ text.now }
+{
+    text.as_str().as_bytes()
+}
+
+pub fn same(a: &[u8], b: &[u8]) -> bool
+    ensures { result ≡ text_eq a.now b.now }
+{
+    a == b
+}
