@@ -1,0 +1,9 @@
+//! The run of the program: words, an input of lines, and the lines that it writes.
+#![tactic(auto)]
+
+mod lines;
+mod run;
+mod stub;
+
+pub use lines::{PathLine, read_path_line};
+pub use run::run;

@@ -1,0 +1,171 @@
+//! The run of the program.
+use crate::lines::{PathLine, SCENE_LINE, read_path_line};
+use crate::stub::{ReportNo, World, WorldStop};
+use gd_variant::{Bytes, OutOfMemory};
+use scene_model::{Report, WorldNo, WorldOutcome};
+use session_text::{
+    LineReader, LineWhy, NextLine, ReadStop, Sink, Source, Status, outcome_text, put_all, report_text,
+};
+use sqlite_items::Items;
+use std::alloc::Global;
+
+/// The most bytes of a line.
+const LONGEST_LINE: usize = 256;
+
+/// The most lines.
+const MOST_LINES: u64 = 64;
+
+/// The peer of which a report is asked.
+const REPORTED: i32 = 2;
+
+/// Why a line gives nothing to write.
+enum LineStop {
+    /// It isn't a line of the first path.
+    NotALine,
+    OutOfMemory,
+}
+
+impl From<OutOfMemory> for LineStop {
+    fn from(_e: OutOfMemory) -> LineStop {
+        LineStop::OutOfMemory
+    }
+}
+
+impl From<WorldStop> for LineStop {
+    fn from(_e: WorldStop) -> LineStop {
+        LineStop::OutOfMemory
+    }
+}
+
+fn is_replay(words: &[String]) -> bool {
+    match words {
+        [word] => word.as_str() == "replay",
+        _ => false,
+    }
+}
+
+/// Puts the lines of a report behind the line that says that it is done.
+fn done_and(alloc: Global, n: u64, report: &Report) -> Result<Bytes, OutOfMemory> {
+    let done = WorldOutcome::Done {
+        made: None,
+        steps: Items::new(alloc),
+    };
+    let mut text = outcome_text(alloc, n, &done)?.into_vec();
+    let lines = report_text(alloc, REPORTED, report)?;
+    text.extend_from_slice(lines.as_slice())?;
+    Ok(Bytes::from_vec(text))
+}
+
+/// The lines that a report writes.
+fn report_lines(alloc: Global, world: &World, n: u64) -> Result<Bytes, OutOfMemory> {
+    match world.report(alloc, REPORTED) {
+        Ok(report) => done_and(alloc, n, &report),
+        Err(ReportNo::NoPeer) => outcome_text(alloc, n, &WorldOutcome::Refused(WorldNo::NoPeer)),
+        Err(ReportNo::OutOfMemory) => Err(OutOfMemory),
+    }
+}
+
+/// Runs one line behind the scene line, and answers what it writes.
+fn run_line(
+    alloc: Global,
+    world: &mut World,
+    n: u64,
+    line: &[u8],
+) -> Result<Bytes, LineStop> {
+    let outcome = match read_path_line(alloc, world.is_connected(), line)? {
+        None => return Err(LineStop::NotALine),
+        Some(PathLine::Report) => return Ok(report_lines(alloc, world, n)?),
+        Some(PathLine::Connect) => world.connect(alloc)?,
+        Some(PathLine::Spawn { name, value }) => world.spawn(alloc, name, value)?,
+        Some(PathLine::Deliver) => world.deliver(alloc)?,
+    };
+    Ok(outcome_text(alloc, n, &outcome)?)
+}
+
+fn not_built(n: u64) -> Status {
+    Status::BadLine {
+        n,
+        why: LineWhy::NotBuilt,
+    }
+}
+
+fn read_status(stop: ReadStop) -> Status {
+    match stop {
+        ReadStop::Failed => Status::ReadFault,
+        ReadStop::OutOfMemory => Status::OutOfMemory,
+    }
+}
+
+/// Reads the scene line. What is answered ends the run.
+fn read_scene<S: Source>(alloc: Global, reader: &mut LineReader, source: &mut S) -> Result<(), Status> {
+    match reader.next(alloc, source) {
+        Ok(NextLine::Line(line)) if line.as_slice() == SCENE_LINE => Ok(()),
+        Ok(_) => Err(not_built(1)),
+        Err(stop) => Err(read_status(stop)),
+    }
+}
+
+/// Runs a line, and writes what it gives. What is answered ends the run.
+fn take_line<K: Sink>(
+    alloc: Global,
+    world: &mut World,
+    n: u64,
+    line: &[u8],
+    sink: &mut K,
+) -> Result<(), Status> {
+    if n > MOST_LINES {
+        return Err(not_built(n));
+    }
+    match run_line(alloc, world, n, line) {
+        Ok(text) => match put_all(sink, text.as_slice()) {
+            Ok(()) => Ok(()),
+            Err(_) => Err(Status::WriteFault),
+        },
+        Err(LineStop::NotALine) => Err(not_built(n)),
+        Err(LineStop::OutOfMemory) => Err(Status::OutOfMemory),
+    }
+}
+
+/// Runs the lines behind the scene line.
+fn run_lines<S: Source, K: Sink>(
+    alloc: Global,
+    reader: &mut LineReader,
+    source: &mut S,
+    sink: &mut K,
+) -> Status {
+    let mut world = World::new(alloc);
+    let mut n = 1u64;
+    loop {
+        n += 1;
+        match reader.next(alloc, source) {
+            Ok(NextLine::Line(line)) => {
+                if let Err(status) = take_line(alloc, &mut world, n, line.as_slice(), sink) {
+                    return status;
+                }
+            }
+            Ok(NextLine::Long) => return not_built(n),
+            Ok(NextLine::End) => return Status::Done,
+            Err(stop) => return read_status(stop),
+        }
+    }
+}
+
+/// Does what the words ask for. They are those of the command line, without the program's name.
+pub fn run<S: Source, K: Sink>(
+    alloc: Global,
+    words: &[String],
+    source: &mut S,
+    sink: &mut K,
+) -> Status {
+    if !is_replay(words) {
+        return Status::Usage;
+    }
+    let mut reader = match LineReader::new(alloc, LONGEST_LINE) {
+        Ok(reader) => reader,
+        Err(OutOfMemory) => return Status::OutOfMemory,
+    };
+    match read_scene(alloc, &mut reader, source) {
+        Ok(()) => run_lines(alloc, &mut reader, source, sink),
+        Err(status) => status,
+    }
+}
