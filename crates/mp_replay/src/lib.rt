@@ -2,8 +2,8 @@
 #![tactic(auto)]
 
 mod lines;
-mod run;
+mod replay;
 mod stub;
 
 pub use lines::{PathLine, read_path_line};
-pub use run::run;
+pub use replay::run;

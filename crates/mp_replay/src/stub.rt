@@ -1,7 +1,10 @@
 //! A stand-in for the world, which keeps two peers and one way.
 use gd_variant::{Bytes, OutOfMemory, Text, Variant};
 use peer_core::{Peer, Stop};
-use scene_model::{Class, Effects, Event, Op, Outcome, Out, OutList, PeerStep, Prop, Report, SpawnOp, WorldNo, WorldOutcome};
+use scene_model::{
+    Class, Effects, Event, Op, Out, OutList, Outcome, PeerStep, Prop, Report, SpawnOp, WorldNo,
+    WorldOutcome,
+};
 use sqlite_items::Items;
 use std::alloc::Global;
 
@@ -97,7 +100,12 @@ impl World {
         })
     }
 
-    pub fn spawn(&mut self, alloc: Global, name: Text, value: i64) -> Result<WorldOutcome, WorldStop> {
+    pub fn spawn(
+        &mut self,
+        alloc: Global,
+        name: Text,
+        value: i64,
+    ) -> Result<WorldOutcome, WorldStop> {
         let mut sets = Items::new(alloc);
         if let Err(_) = sets.push(Prop {
             name: Text::from_str(alloc, "v")?,

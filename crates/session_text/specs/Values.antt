@@ -3,7 +3,8 @@ use Rattle.std.specs.Prelude.{ℕ, ℤ, Bool, true, false, List, [], ◌∷◌, 
 use Rattle.serde_json.specs.Data.{Data, null, boolean, string, array, Items, no_items, item}
 use Rattle.serde_json.specs.View.{items_of}
 use Rattle.gd_variant.specs.declared.value.Variant.{Variant}
-use Rattle.gd_variant.specs.Tree.{Tree, Trees, plain, plains}
+use Rattle.gd_variant.specs.declared.value.Pair.{Pair}
+use Rattle.gd_variant.specs.Tree.{Tree, Trees, plain}
 use Rattle.gd_variant.specs.Tree as tree
 use Rattle.session_text.specs.Json.{hex_of, int_of, nat_of, tagged_of}
 
@@ -68,6 +69,10 @@ abbrev mutual
 abbrev pub value_of : Variant → Data
 value_of v = tree_data (plain v)
 
+-- an entry of a dictionary in a line
+abbrev pub pair_of : Pair → Data
+pair_of p = pair_data (value_of p.key) (value_of p.value)
+
 -- an array of values
 abbrev pub values_of : List Variant → Data
-values_of vs = array (trees_data (plains vs))
+values_of vs = array (items_of (map value_of vs))

@@ -17,7 +17,7 @@ mod values;
 
 pub use lines::{LineReader, NextLine, PIECE, ReadStop};
 pub use memory::{MemSink, MemSource, SureSink, SureSource};
-pub use outcomes::{outcome_text, push_world_no};
+pub use outcomes::outcome_text;
 pub use process::{StdSink, StdSource};
 pub use reports::report_text;
 pub use sink::{Sink, put_all};

@@ -74,21 +74,72 @@ fn push_packet(alloc: Global, out: &mut Vec<u8>, peer: i32, packet: &Out) -> Res
     push_line(alloc, out, cells)
 }
 
+/// The calls that ran at a peer.
+fn push_runs(alloc: Global, out: &mut Vec<u8>, peer: i32, runs: &[Run]) -> Result<(), OutOfMemory>
+    ensures { OnOk result (out.new.items ≡ out.old.items ++ flat_map (run_line peer) runs.now) }
+{
+    for run in runs {
+        push_run(alloc, out, peer, run)?;
+    }
+    Ok(())
+}
+
+/// The raw bytes that came to a peer.
+fn push_raws(
+    alloc: Global,
+    out: &mut Vec<u8>,
+    peer: i32,
+    raws: &[RawGot],
+) -> Result<(), OutOfMemory>
+    ensures { OnOk result (out.new.items ≡ out.old.items ++ flat_map (raw_line peer) raws.now) }
+{
+    for raw in raws {
+        push_raw(alloc, out, peer, raw)?;
+    }
+    Ok(())
+}
+
+/// The entries that changed nothing at a peer.
+fn push_skips(alloc: Global, out: &mut Vec<u8>, peer: i32, skips: &[Skip]) -> Result<(), OutOfMemory>
+    ensures { OnOk result (out.new.items ≡ out.old.items ++ flat_map (skip_line peer) skips.now) }
+{
+    for skip in skips {
+        push_skip(alloc, out, peer, skip)?;
+    }
+    Ok(())
+}
+
+/// The packets that a peer put on its links.
+fn push_packets(
+    alloc: Global,
+    out: &mut Vec<u8>,
+    peer: i32,
+    packets: &[Out],
+) -> Result<(), OutOfMemory>
+    ensures { OnOk result (out.new.items ≡ out.old.items ++ flat_map (packet_line peer) packets.now) }
+{
+    for packet in packets {
+        push_packet(alloc, out, peer, packet)?;
+    }
+    Ok(())
+}
+
 /// What one peer did: calls that ran, raw bytes, entries that changed nothing, packets.
 fn push_step(alloc: Global, out: &mut Vec<u8>, step: &PeerStep) -> Result<(), OutOfMemory>
     ensures { OnOk result (out.new.items ≡ out.old.items ++ step_lines step.now) }
 {
-    for run in step.effects.runs.as_slice() {
-        push_run(alloc, out, step.peer, run)?;
-    }
-    for raw in step.effects.raws.as_slice() {
-        push_raw(alloc, out, step.peer, raw)?;
-    }
-    for skip in step.effects.skips.as_slice() {
-        push_skip(alloc, out, step.peer, skip)?;
-    }
-    for packet in step.effects.packets.as_slice() {
-        push_packet(alloc, out, step.peer, packet)?;
+    push_runs(alloc, out, step.peer, step.effects.runs.as_slice())?;
+    push_raws(alloc, out, step.peer, step.effects.raws.as_slice())?;
+    push_skips(alloc, out, step.peer, step.effects.skips.as_slice())?;
+    push_packets(alloc, out, step.peer, step.effects.packets.as_slice())
+}
+
+/// What the peers did.
+fn push_steps(alloc: Global, out: &mut Vec<u8>, steps: &[PeerStep]) -> Result<(), OutOfMemory>
+    ensures { OnOk result (out.new.items ≡ out.old.items ++ flat_map step_lines steps.now) }
+{
+    for step in steps {
+        push_step(alloc, out, step)?;
     }
     Ok(())
 }
@@ -118,14 +169,11 @@ fn push_done(
     let word = string(alloc, "done")?;
     push_line(alloc, out, vec![in alloc; nat(n), word]?)?;
     push_made(alloc, out, made)?;
-    for step in steps {
-        push_step(alloc, out, step)?;
-    }
-    Ok(())
+    push_steps(alloc, out, steps)
 }
 
 /// A refusal of the session.
-pub fn push_world_no(
+fn push_world_no(
     alloc: Global,
     out: &mut Vec<u8>,
     n: u64,

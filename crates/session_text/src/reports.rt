@@ -1,5 +1,5 @@
 //! The lines of a report.
-ghost use Rattle.std.specs.Prelude.{◌≡◌, ◌++◌, IfOk, OnOk};
+ghost use Rattle.std.specs.Prelude.{◌≡◌, ◌++◌, flat_map, IfOk, OnOk};
 ghost use Rattle.serde_json.specs.View.{view};
 ghost use Rattle.session_text.specs.Reports.{node_line, peer_line, report_lines, row_lines, value_line};
 ghost use Rattle.session_text.specs.Values.{ints_of};
@@ -56,13 +56,36 @@ fn push_node(alloc: Global, out: &mut Vec<u8>, peer: i32, row: &Row) -> Result<(
     push_line(alloc, out, cells)
 }
 
+/// The properties of a node.
+fn push_values(
+    alloc: Global,
+    out: &mut Vec<u8>,
+    peer: i32,
+    path: &str,
+    props: &[Prop],
+) -> Result<(), OutOfMemory>
+    ensures { OnOk result (out.new.items ≡ out.old.items ++ flat_map (value_line peer path.now) props.now) }
+{
+    for prop in props {
+        push_value(alloc, out, peer, path, prop)?;
+    }
+    Ok(())
+}
+
 /// A node and its properties.
 fn push_row(alloc: Global, out: &mut Vec<u8>, peer: i32, row: &Row) -> Result<(), OutOfMemory>
     ensures { OnOk result (out.new.items ≡ out.old.items ++ row_lines peer row.now) }
 {
     push_node(alloc, out, peer, row)?;
-    for prop in row.values.as_slice() {
-        push_value(alloc, out, peer, row.path.as_str(), prop)?;
+    push_values(alloc, out, peer, row.path.as_str(), row.values.as_slice())
+}
+
+/// The nodes with their properties.
+fn push_rows(alloc: Global, out: &mut Vec<u8>, peer: i32, rows: &[Row]) -> Result<(), OutOfMemory>
+    ensures { OnOk result (out.new.items ≡ out.old.items ++ flat_map (row_lines peer) rows.now) }
+{
+    for row in rows {
+        push_row(alloc, out, peer, row)?;
     }
     Ok(())
 }
@@ -73,8 +96,6 @@ pub fn report_text(alloc: Global, peer: i32, report: &Report) -> Result<Bytes, O
 {
     let mut out = Vec::new(alloc);
     push_peers(alloc, &mut out, peer, report.peers.as_slice())?;
-    for row in report.rows.as_slice() {
-        push_row(alloc, &mut out, peer, row)?;
-    }
+    push_rows(alloc, &mut out, peer, report.rows.as_slice())?;
     Ok(Bytes::from_vec(out))
 }

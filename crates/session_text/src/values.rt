@@ -1,8 +1,7 @@
 //! Values in lines.
 ghost use Rattle.std.specs.Prelude.{◌≡◌, map, IfOk};
-ghost use Rattle.serde_json.specs.View.{view, items_view};
-ghost use Rattle.gd_variant.specs.Tree.{plain, plains, plain_pairs};
-ghost use Rattle.session_text.specs.Values.{ints_of, opaque_of, pairs_data, path_of, run_name, texts_of, tree_data, trees_data, vector_of};
+ghost use Rattle.serde_json.specs.View.{view};
+ghost use Rattle.session_text.specs.Values.{ints_of, opaque_of, pair_of, path_of, run_name, texts_of, value_of, vector_of};
 
 use crate::json::{hexadecimal, int, nat, string, tagged};
 use gd_variant::{IntsOf, NodePath, Opaque, OutOfMemory, Pair, Text, Variant};
@@ -77,7 +76,7 @@ fn run_key(wide: bool) -> &'static str
 /// The pairs of a dictionary, each an array of key and value.
 #[cycle(writing)]
 fn pairs(pairs: &[Pair], alloc: Global) -> Result<Vec<Value>, OutOfMemory>
-    ensures { IfOk result (λ vs. items_view vs.items ≡ pairs_data (plain_pairs pairs.now)) }
+    ensures { IfOk result (λ vs. map view vs.items ≡ map pair_of pairs.now) }
 {
     let mut all = Vec::new(alloc);
     for pair in pairs {
@@ -91,7 +90,7 @@ fn pairs(pairs: &[Pair], alloc: Global) -> Result<Vec<Value>, OutOfMemory>
 /// The values of a list.
 #[cycle(writing)]
 pub fn values_json(values: &[Variant], alloc: Global) -> Result<Vec<Value>, OutOfMemory>
-    ensures { IfOk result (λ vs. items_view vs.items ≡ trees_data (plains values.now)) }
+    ensures { IfOk result (λ vs. map view vs.items ≡ map value_of values.now) }
 {
     let mut all = Vec::new(alloc);
     for value in values {
@@ -103,7 +102,7 @@ pub fn values_json(values: &[Variant], alloc: Global) -> Result<Vec<Value>, OutO
 /// A value as it is written in a line.
 #[cycle(writing)]
 pub fn value_json(value: &Variant, alloc: Global) -> Result<Value, OutOfMemory>
-    ensures { IfOk result (λ v. view v ≡ tree_data (plain value.now)) }
+    ensures { IfOk result (λ v. view v ≡ value_of value.now) }
 {
     match value {
         Variant::Nil => Ok(Value::Null),
@@ -119,7 +118,7 @@ pub fn value_json(value: &Variant, alloc: Global) -> Result<Value, OutOfMemory>
         Variant::Opaque(parts) => opaque(alloc, parts),
         Variant::Dict(entries) => {
             let entries = pairs(entries.as_slice(), alloc)?;
-            tagged(alloc, "dict", Value::Array(entries))
+            Ok(tagged(alloc, "dict", Value::Array(entries))?)
         }
         Variant::Array(items) => Ok(Value::Array(values_json(items.as_slice(), alloc)?)),
         Variant::PackedBytes(bytes) => {

@@ -1,10 +1,11 @@
 //! The run of the program.
-use crate::lines::{PathLine, SCENE_LINE, read_path_line};
+use crate::lines::{PathLine, is_scene, read_path_line};
 use crate::stub::{ReportNo, World, WorldStop};
 use gd_variant::{Bytes, OutOfMemory};
 use scene_model::{Report, WorldNo, WorldOutcome};
 use session_text::{
-    LineReader, LineWhy, NextLine, ReadStop, Sink, Source, Status, outcome_text, put_all, report_text,
+    LineReader, LineWhy, NextLine, ReadStop, Sink, Source, Status, outcome_text, put_all,
+    report_text,
 };
 use sqlite_items::Items;
 use std::alloc::Global;
@@ -12,8 +13,8 @@ use std::alloc::Global;
 /// The most bytes of a line.
 const LONGEST_LINE: usize = 256;
 
-/// The most lines.
-const MOST_LINES: u64 = 64;
+/// The number of the last line that may be there.
+const LAST_NUMBER: u64 = 64;
 
 /// The peer of which a report is asked.
 const REPORTED: i32 = 2;
@@ -66,12 +67,7 @@ fn report_lines(alloc: Global, world: &World, n: u64) -> Result<Bytes, OutOfMemo
 }
 
 /// Runs one line behind the scene line, and answers what it writes.
-fn run_line(
-    alloc: Global,
-    world: &mut World,
-    n: u64,
-    line: &[u8],
-) -> Result<Bytes, LineStop> {
+fn run_line(alloc: Global, world: &mut World, n: u64, line: &[u8]) -> Result<Bytes, LineStop> {
     let outcome = match read_path_line(alloc, world.is_connected(), line)? {
         None => return Err(LineStop::NotALine),
         Some(PathLine::Report) => return Ok(report_lines(alloc, world, n)?),
@@ -97,32 +93,60 @@ fn read_status(stop: ReadStop) -> Status {
 }
 
 /// Reads the scene line. What is answered ends the run.
-fn read_scene<S: Source>(alloc: Global, reader: &mut LineReader, source: &mut S) -> Result<(), Status> {
+fn read_scene<S: Source>(alloc: Global, reader: &mut LineReader, source: &mut S) -> Option<Status> {
     match reader.next(alloc, source) {
-        Ok(NextLine::Line(line)) if line.as_slice() == SCENE_LINE => Ok(()),
-        Ok(_) => Err(not_built(1)),
-        Err(stop) => Err(read_status(stop)),
+        Ok(NextLine::Line(line)) if is_scene(line.as_slice()) => None,
+        Ok(_) => Some(not_built(1)),
+        Err(stop) => Some(read_status(stop)),
     }
 }
 
-/// Runs a line, and writes what it gives. What is answered ends the run.
+/// Writes what a line gives. What is answered ends the run.
+fn write_text<K: Sink>(text: &[u8], sink: &mut K) -> Option<Status> {
+    match put_all(sink, text) {
+        Ok(()) => None,
+        Err(_) => Some(Status::WriteFault),
+    }
+}
+
+/// Runs line `n`, and writes what it gives. What is answered ends the run.
 fn take_line<K: Sink>(
     alloc: Global,
     world: &mut World,
     n: u64,
     line: &[u8],
     sink: &mut K,
-) -> Result<(), Status> {
-    if n > MOST_LINES {
-        return Err(not_built(n));
-    }
+) -> Option<Status> {
     match run_line(alloc, world, n, line) {
-        Ok(text) => match put_all(sink, text.as_slice()) {
-            Ok(()) => Ok(()),
-            Err(_) => Err(Status::WriteFault),
-        },
-        Err(LineStop::NotALine) => Err(not_built(n)),
-        Err(LineStop::OutOfMemory) => Err(Status::OutOfMemory),
+        Ok(text) => write_text(text.as_slice(), sink),
+        Err(LineStop::NotALine) => Some(not_built(n)),
+        Err(LineStop::OutOfMemory) => Some(Status::OutOfMemory),
+    }
+}
+
+/// Reads line `n`, runs it, and writes what it gives. What is answered ends the run.
+fn take_next<S: Source, K: Sink>(
+    alloc: Global,
+    world: &mut World,
+    n: u64,
+    reader: &mut LineReader,
+    source: &mut S,
+    sink: &mut K,
+) -> Option<Status> {
+    match reader.next(alloc, source) {
+        Ok(NextLine::Line(line)) => take_line(alloc, world, n, line.as_slice(), sink),
+        Ok(NextLine::Long) => Some(not_built(n)),
+        Ok(NextLine::End) => Some(Status::Done),
+        Err(stop) => Some(read_status(stop)),
+    }
+}
+
+/// Reads on behind the last line that may be there.
+fn end_of<S: Source>(alloc: Global, reader: &mut LineReader, source: &mut S) -> Status {
+    match reader.next(alloc, source) {
+        Ok(NextLine::End) => Status::Done,
+        Ok(_) => not_built(LAST_NUMBER + 1),
+        Err(stop) => read_status(stop),
     }
 }
 
@@ -134,20 +158,12 @@ fn run_lines<S: Source, K: Sink>(
     sink: &mut K,
 ) -> Status {
     let mut world = World::new(alloc);
-    let mut n = 1u64;
-    loop {
-        n += 1;
-        match reader.next(alloc, source) {
-            Ok(NextLine::Line(line)) => {
-                if let Err(status) = take_line(alloc, &mut world, n, line.as_slice(), sink) {
-                    return status;
-                }
-            }
-            Ok(NextLine::Long) => return not_built(n),
-            Ok(NextLine::End) => return Status::Done,
-            Err(stop) => return read_status(stop),
+    for n in 2..LAST_NUMBER + 1 {
+        if let Some(status) = take_next(alloc, &mut world, n, reader, source, sink) {
+            return status;
         }
     }
+    end_of(alloc, reader, source)
 }
 
 /// Does what the words ask for. They are those of the command line, without the program's name.
@@ -165,7 +181,7 @@ pub fn run<S: Source, K: Sink>(
         Err(OutOfMemory) => return Status::OutOfMemory,
     };
     match read_scene(alloc, &mut reader, source) {
-        Ok(()) => run_lines(alloc, &mut reader, source, sink),
-        Err(status) => status,
+        Some(status) => status,
+        None => run_lines(alloc, &mut reader, source, sink),
     }
 }
