@@ -296,6 +296,9 @@ impl Peer {
         ensures answer { (es : List EventOf) → StandsFor packet_form self.old es → IfOk result (λ o. o ≡ path_answer packet_form self.old.id es event) }
         // afterwards it stands for that list with this event
         ensures stands { (es : List EventOf) → StandsFor packet_form self.old es → is_built packet_form self.old.id (accepted_events packet_form (path_peer self.old.id) es) event ≡ true → OnOk result (StandsFor packet_form self.new (event ∷ es)) }
+        // one step on what it keeps, and what types say of the event
+        ensures kept { IfOk result (λ o. record { outcome = o; kept = self.new } ≡ taken packet_form self.old event) }
+        ensures typed { OnOk result (IsTypedEvent packet_form self.old event) }
         ensures unchanged { IfOk result (λ o. is_done o ≡ false → self.new ≡ self.old) }
 
         // a spent peer says so, and only want of memory spends it
