@@ -263,7 +263,7 @@ impl Peer {
     /// A peer with this number, 1 for the server, before its first event.
     pub fn new(alloc: Global, id: i32) -> Peer
         requires { pos 1 ≤ℤ id }
-        ensures id { result.id ≡ id }
+        ensures fresh { result ≡ record { id = id; spent = false; up = []; rows = [] } }
         ensures stands { StandsFor packet_form result [] }
     {
         Peer {
