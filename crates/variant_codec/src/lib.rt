@@ -6,5 +6,6 @@
 
 mod form;
 mod parts;
+mod reading;
 
 pub use form::Form;

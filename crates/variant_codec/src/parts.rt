@@ -154,7 +154,7 @@ fn element_of(alloc: Global, bytes: &[u8]) -> Result<(Text, &[u8]), ReadError>
 }
 
 #[tactic(auto, unfolding(crate::specs::Reading::short_at))]
-fn i32_of(bytes: &[u8]) -> Result<(i32, &[u8]), ReadError>
+pub fn i32_of(bytes: &[u8]) -> Result<(i32, &[u8]), ReadError>
     ensures gives { Gives (λ x. (x.0, x.1.now)) result (short_at bytes.now) }
     ensures fits { IfOk result (λ x. FitsSigned w32 x.0) }
 {
@@ -163,7 +163,7 @@ fn i32_of(bytes: &[u8]) -> Result<(i32, &[u8]), ReadError>
 }
 
 #[tactic(auto, unfolding(crate::specs::Reading::long_at))]
-fn i64_of(bytes: &[u8]) -> Result<(i64, &[u8]), ReadError>
+pub fn i64_of(bytes: &[u8]) -> Result<(i64, &[u8]), ReadError>
     ensures gives { Gives (λ x. (x.0, x.1.now)) result (long_at bytes.now) }
     ensures fits { IfOk result (λ x. FitsSigned w64 x.0) }
 {
@@ -172,7 +172,7 @@ fn i64_of(bytes: &[u8]) -> Result<(i64, &[u8]), ReadError>
 }
 
 /// So many texts.
-fn texts_of(alloc: Global, count: u32, bytes: &[u8]) -> Result<(TextRun, &[u8]), ReadError>
+pub fn texts_of(alloc: Global, count: u32, bytes: &[u8]) -> Result<(TextRun, &[u8]), ReadError>
     ensures { Gives (λ x. (x.0, x.1.now)) result (texts_of count bytes.now) }
 {
     let mut items = Items::new(alloc);
@@ -186,7 +186,7 @@ fn texts_of(alloc: Global, count: u32, bytes: &[u8]) -> Result<(TextRun, &[u8]),
 }
 
 /// So many texts of a packed array.
-fn elements_of(alloc: Global, count: u32, bytes: &[u8]) -> Result<(TextRun, &[u8]), ReadError>
+pub fn elements_of(alloc: Global, count: u32, bytes: &[u8]) -> Result<(TextRun, &[u8]), ReadError>
     ensures { Gives (λ x. (x.0, x.1.now)) result (elements_of count bytes.now) }
 {
     let mut items = Items::new(alloc);
@@ -200,7 +200,7 @@ fn elements_of(alloc: Global, count: u32, bytes: &[u8]) -> Result<(TextRun, &[u8
 }
 
 /// So many numbers of an integer vector.
-fn vector_of(alloc: Global, count: usize, bytes: &[u8]) -> Result<(List32, &[u8]), ReadError>
+pub fn vector_of(alloc: Global, count: usize, bytes: &[u8]) -> Result<(List32, &[u8]), ReadError>
     ensures { Gives (λ x. (x.0, x.1.now)) result (shorts_of count bytes.now) }
 {
     let mut items = Items::new(alloc);
@@ -214,7 +214,7 @@ fn vector_of(alloc: Global, count: usize, bytes: &[u8]) -> Result<(List32, &[u8]
 }
 
 /// So many 32-bit numbers.
-fn shorts_of(alloc: Global, count: u32, bytes: &[u8]) -> Result<(List64, &[u8]), ReadError>
+pub fn shorts_of(alloc: Global, count: u32, bytes: &[u8]) -> Result<(List64, &[u8]), ReadError>
     ensures { Gives (λ x. (x.0, x.1.now)) result (shorts_of count bytes.now) }
 {
     let mut items = Items::new(alloc);
@@ -228,7 +228,7 @@ fn shorts_of(alloc: Global, count: u32, bytes: &[u8]) -> Result<(List64, &[u8]),
 }
 
 /// So many 64-bit numbers.
-fn longs_of(alloc: Global, count: u32, bytes: &[u8]) -> Result<(List64, &[u8]), ReadError>
+pub fn longs_of(alloc: Global, count: u32, bytes: &[u8]) -> Result<(List64, &[u8]), ReadError>
     ensures { Gives (λ x. (x.0, x.1.now)) result (longs_of count bytes.now) }
 {
     let mut items = Items::new(alloc);
