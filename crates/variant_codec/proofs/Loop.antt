@@ -1,5 +1,6 @@
 -- Reading parts one after the other, as a loop does.
-use Rattle.std.proofs.Common.{◌≡◌, ℕ, suc, ◌-◌, ◌+◌, ◌≤◌, ◌<◌, List, [], ◌∷◌, ◌++◌, Ok, Err, refl, sym, ap, ◌∙◌, arith}
+use Rattle.std.proofs.Common.{◌≡◌, ℕ, suc, ◌-◌, ◌+◌, ◌≤◌, ◌<◌, List, [], ◌∷◌, ◌++◌, map, Ok, Err, refl, sym, ap, ◌∙◌, arith}
+use Rattle.std.proofs.lemmas.List.{map_push}
 use Rattle.byte_fields.specs.declared.fault.ReadError.{ReadError}
 use Rattle.byte_fields.specs.declared.fault.ReadError.TheVariants as errors
 use Rattle.byte_fields.specs.Fields.{◌>>=◌, Fails}
@@ -29,3 +30,9 @@ is_done read before count i bytes total all le so_far =
     let k : count - i ≡ 0 = omega arith in
     let one : list_by read before (count - i) bytes ≡ Ok (before, bytes) = rw k refl in
     sym so_far ∙ one
+
+-- the same of values that the code keeps, each seen as its tree
+pub goes_on_seen : {V X : Type 0} (see : V → X) (read : List X → Reader X) (before now : List V) (count i : ℕ) (bytes : List ℕ) (v : V) (after all : List ℕ) → i < count → read (map see before) bytes ≡ Ok (see v, after)
+    → now ≡ before ++ v ∷ [] → list_by read (map see before) (count - i) bytes ≡ list_by read [] count all → list_by read (map see now) (count - (i + 1)) after ≡ list_by read [] count all
+goes_on_seen see read before now count i bytes v after all lt h is so_far =
+    goes_on read (map see before) (map see now) count i bytes (see v) after [] all lt h (ap (map see) is ∙ map_push see before v) so_far

@@ -1,12 +1,13 @@
 //! Reading a value from left to right.
-ghost use Rattle.std.specs.Prelude.{◌≡◌, ◌≤◌};
+ghost use Rattle.std.specs.Prelude.{◌≡◌, map, []};
 ghost use Rattle.std.specs.Int.{w8, w16, w32, w64};
 ghost use Rattle.byte_fields.specs.Fields.{Gives};
 ghost use Rattle.byte_fields.specs.Complement.{half8, half16, half32, half64};
-ghost use Rattle.gd_variant.specs.Tree.{plain, plains, plain_pair};
+ghost use Rattle.gd_variant.specs.Tree.{plain, plain_pair};
+ghost use Rattle.gd_variant.specs.declared.message.Why.TheVariants.{RepeatedKey};
 ghost use Rattle.variant_codec.specs.Header.{form_of};
-ghost use Rattle.variant_codec.specs.Readers.{list_by, whole_by};
-ghost use Rattle.variant_codec.specs.Reading.{bool_at, int_at, names_at, flags_at, shorts_of, path_of, path_at, ints_at, fixed_at, packed_at, bytes_at, packed_shorts_at, packed_longs_at, packed_texts_at, array_by, pair_by, dict_by, body_by, value_at, small_int_at, small_by, small_at};
+ghost use Rattle.variant_codec.specs.Readers.{checked_by, list_by};
+ghost use Rattle.variant_codec.specs.Reading.{bool_at, int_at, names_at, flags_at, shorts_of, path_of, path_at, ints_at, fixed_at, packed_at, bytes_at, packed_shorts_at, packed_longs_at, packed_texts_at, array_by, is_new_to, pair_by, dict_by, body_by, value_at, small_int_at, small_by, small_at};
 
 use crate::form::{Form, form_of};
 use crate::parts::{
@@ -174,4 +175,160 @@ fn packed_texts_of(alloc: Global, bytes: &[u8]) -> Result<(Variant, &[u8]), Read
     let (count, rest) = u32_at(bytes)?;
     let (items, rest) = elements_of(alloc, count, rest)?;
     Ok((Variant::PackedTexts(items), rest))
+}
+
+/// Whether no pair has the key.
+fn is_new(pairs: &[Pair], key: &Variant) -> bool
+    ensures { result ≡ is_new_to (map plain_pair pairs.now) (plain key.now) }
+{
+    for pair in pairs {
+        if same(key, &pair.key) {
+            return false;
+        }
+    }
+    true
+}
+
+/// So many values.
+#[cycle(reading)]
+fn items_of(
+    alloc: Global,
+    levels: u32,
+    count: u32,
+    bytes: &[u8],
+) -> Result<(ValueList, &[u8]), ReadError>
+    ensures { Gives (λ x. (map plain x.0, x.1.now)) result (list_by (λ _. value_at levels) [] count bytes.now) }
+{
+    let mut items = Items::new(alloc);
+    let mut rest = bytes;
+    for _ in 0..count {
+        let (item, after) = value_of(alloc, levels, rest)?;
+        items.push(item)?;
+        rest = after;
+    }
+    Ok((items, rest))
+}
+
+#[cycle(reading)]
+#[tactic(auto, using(gd_variant::proofs::TreeOf::plain_array), unfolding(crate::specs::Reading::array_by))]
+fn array_of(alloc: Global, levels: u32, bytes: &[u8]) -> Result<(Variant, &[u8]), ReadError>
+    ensures { Gives (λ x. (plain x.0, x.1.now)) result (array_by (value_at levels) bytes.now) }
+{
+    let (count, rest) = u32_at(bytes)?;
+    let (items, rest) = items_of(alloc, levels, count % 2147483648, rest)?;
+    Ok((Variant::Array(items), rest))
+}
+
+/// A key that none of the pairs has.
+#[cycle(reading)]
+fn key_of<'a>(
+    alloc: Global,
+    levels: u32,
+    before: &[Pair],
+    bytes: &'a [u8],
+) -> Result<(Variant, &'a [u8]), ReadError>
+    ensures { Gives (λ x. (plain x.0, x.1.now)) result (checked_by (is_new_to (map plain_pair before.now)) RepeatedKey (value_at levels) bytes.now) }
+{
+    let (key, rest) = value_of(alloc, levels, bytes)?;
+    if !is_new(before, &key) {
+        return Err(fault_at(bytes, Why::RepeatedKey));
+    }
+    Ok((key, rest))
+}
+
+#[cycle(reading)]
+#[tactic(auto, unfolding(crate::specs::Reading::pair_by))]
+fn pair_of<'a>(
+    alloc: Global,
+    levels: u32,
+    before: &[Pair],
+    bytes: &'a [u8],
+) -> Result<(Pair, &'a [u8]), ReadError>
+    ensures { Gives (λ x. (plain_pair x.0, x.1.now)) result (pair_by (value_at levels) (map plain_pair before.now) bytes.now) }
+{
+    let (key, rest) = key_of(alloc, levels, before, bytes)?;
+    let (value, rest) = value_of(alloc, levels, rest)?;
+    Ok((Pair { key, value }, rest))
+}
+
+/// So many pairs.
+#[cycle(reading)]
+fn pairs_of(
+    alloc: Global,
+    levels: u32,
+    count: u32,
+    bytes: &[u8],
+) -> Result<(Pairs, &[u8]), ReadError>
+    ensures { Gives (λ x. (map plain_pair x.0, x.1.now)) result (list_by (pair_by (value_at levels)) [] count bytes.now) }
+{
+    let mut items = Items::new(alloc);
+    let mut rest = bytes;
+    for _ in 0..count {
+        let (item, after) = pair_of(alloc, levels, items.as_slice(), rest)?;
+        items.push(item)?;
+        rest = after;
+    }
+    Ok((items, rest))
+}
+
+#[cycle(reading)]
+#[tactic(auto, using(gd_variant::proofs::TreeOf::plain_dict), unfolding(crate::specs::Reading::dict_by))]
+fn dict_of(alloc: Global, levels: u32, bytes: &[u8]) -> Result<(Variant, &[u8]), ReadError>
+    ensures { Gives (λ x. (plain x.0, x.1.now)) result (dict_by (value_at levels) bytes.now) }
+{
+    let (count, rest) = u32_at(bytes)?;
+    let (pairs, rest) = pairs_of(alloc, levels, count % 2147483648, rest)?;
+    Ok((Variant::Dict(pairs), rest))
+}
+
+/// What stands behind a header; `levels` is for the values inside.
+#[cycle(reading)]
+#[tactic(auto, unfolding(crate::specs::Reading::body_by))]
+fn body_of(
+    alloc: Global,
+    levels: u32,
+    code: u8,
+    wide: bool,
+    bytes: &[u8],
+) -> Result<(Variant, &[u8]), ReadError>
+    ensures { Gives (λ x. (plain x.0, x.1.now)) result (body_by (value_at levels) (form_of code) code wide bytes.now) }
+{
+    match form_of(code) {
+        Form::Nil => Ok((Variant::Nil, bytes)),
+        Form::Bool => bool_of(bytes),
+        Form::Int => int_of(wide, bytes),
+        Form::Text => {
+            let (text, rest) = text_of(alloc, bytes)?;
+            Ok((Variant::Text(text), rest))
+        }
+        Form::Name => {
+            let (text, rest) = text_of(alloc, bytes)?;
+            Ok((Variant::Name(text), rest))
+        }
+        Form::Path => path_of(alloc, bytes),
+        Form::Ints => ints_of(alloc, code, bytes),
+        Form::Fixed => fixed_of(alloc, code, wide, bytes),
+        Form::Dict => dict_of(alloc, levels, bytes),
+        Form::Array => array_of(alloc, levels, bytes),
+        Form::Bytes => packed_bytes_of(alloc, bytes),
+        Form::Shorts => packed_shorts_of(alloc, bytes),
+        Form::Longs => packed_longs_of(alloc, bytes),
+        Form::Texts => packed_texts_of(alloc, bytes),
+        Form::Elements => packed_of(alloc, code, wide, bytes),
+    }
+}
+
+/// The value whose binary form is at the front, and the bytes after it.
+///
+/// `levels` is how many levels of values may stand here, so one more than how deep the value may nest.
+#[cycle(reading)]
+#[tactic(auto, unfolding(crate::specs::Reading::value_at))]
+pub fn value_of(alloc: Global, levels: u32, bytes: &[u8]) -> Result<(Variant, &[u8]), ReadError>
+    ensures { Gives (λ x. (plain x.0, x.1.now)) result (value_at levels bytes.now) }
+{
+    if levels == 0 {
+        return Err(fault_at(bytes, Why::Depth));
+    }
+    let (head, rest) = header_of(bytes, levels > 1)?;
+    body_of(alloc, levels - 1, (head % 65536) as u8, head / 65536 == 1, rest)
 }
