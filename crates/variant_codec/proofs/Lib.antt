@@ -1,3 +1,5 @@
 pub mod Loop
 pub mod Pushed
 pub mod NewKeys
+pub mod Low
+pub mod Puts

@@ -7,5 +7,6 @@
 mod form;
 mod parts;
 mod reading;
+mod writing;
 
 pub use form::Form;

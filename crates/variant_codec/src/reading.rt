@@ -1,5 +1,5 @@
 //! Reading a value from left to right.
-ghost use Rattle.std.specs.Prelude.{◌≡◌, map, []};
+ghost use Rattle.std.specs.Prelude.{◌≡◌, [], map, drop, slice_index_or};
 ghost use Rattle.std.specs.Int.{w8, w16, w32, w64};
 ghost use Rattle.byte_fields.specs.Fields.{Gives};
 ghost use Rattle.byte_fields.specs.Complement.{half8, half16, half32, half64};
@@ -11,13 +11,13 @@ ghost use Rattle.variant_codec.specs.Reading.{bool_at, int_at, names_at, flags_a
 
 use crate::form::{Form, form_of};
 use crate::parts::{
-    bytes_of, elements_of, fault_at, header_of, i32_of, i64_of, longs_of, raw_of, shorts_of, text_of,
-    texts_of, vector_of,
+    bytes_of, elements_of, fault_at, header_of, i32_of, i64_of, longs_of, raw_of, shorts_of,
+    text_of, texts_of, vector_of,
 };
 use byte_fields::{ReadError, u8_at, u16_at, u32_at, u64_at};
 use gd_variant::{
-    Bytes, IntRun, IntsOf, NodePath, Opaque, Pair, Pairs, ValueList, Variant, Why, bytes_of_component,
-    bytes_of_element, components_of_code, ints_of_code, same,
+    Bytes, IntRun, IntsOf, NodePath, Opaque, Pair, Pairs, ValueList, Variant, Why,
+    bytes_of_component, bytes_of_element, components_of_code, ints_of_code, same,
 };
 use sqlite_items::Items;
 use std::alloc::Global;
@@ -92,7 +92,13 @@ fn path_of(alloc: Global, bytes: &[u8]) -> Result<(Variant, &[u8]), ReadError>
     let (names, rest) = names_of(bytes)?;
     let (subnames, rest) = u32_at(rest)?;
     let (flags, rest) = flags_of(rest)?;
-    path_from(alloc, flags == 1, names.saturating_sub(2147483648), subnames, rest)
+    path_from(
+        alloc,
+        flags == 1,
+        names.saturating_sub(2147483648),
+        subnames,
+        rest,
+    )
 }
 
 #[tactic(auto, unfolding(crate::specs::Reading::ints_at))]
@@ -330,5 +336,71 @@ pub fn value_of(alloc: Global, levels: u32, bytes: &[u8]) -> Result<(Variant, &[
         return Err(fault_at(bytes, Why::Depth));
     }
     let (head, rest) = header_of(bytes, levels > 1)?;
-    body_of(alloc, levels - 1, (head % 65536) as u8, head / 65536 == 1, rest)
+    body_of(
+        alloc,
+        levels - 1,
+        (head % 65536) as u8,
+        head / 65536 == 1,
+        rest,
+    )
+}
+
+#[tactic(auto, unfolding(crate::specs::Reading::small_int_at))]
+fn int8_of(bytes: &[u8]) -> Result<(Variant, &[u8]), ReadError>
+    ensures { Gives (λ x. (plain x.0, x.1.now)) result (small_int_at w8 half8 bytes.now) }
+{
+    let (bits, rest) = u8_at(bytes)?;
+    Ok((Variant::Int(bits.cast_signed() as i64), rest))
+}
+
+#[tactic(auto, unfolding(crate::specs::Reading::small_int_at))]
+fn int16_of(bytes: &[u8]) -> Result<(Variant, &[u8]), ReadError>
+    ensures { Gives (λ x. (plain x.0, x.1.now)) result (small_int_at w16 half16 bytes.now) }
+{
+    let (bits, rest) = u16_at(bytes)?;
+    Ok((Variant::Int(bits.cast_signed() as i64), rest))
+}
+
+#[tactic(auto, unfolding(crate::specs::Reading::small_int_at))]
+fn int32_of(bytes: &[u8]) -> Result<(Variant, &[u8]), ReadError>
+    ensures { Gives (λ x. (plain x.0, x.1.now)) result (small_int_at w32 half32 bytes.now) }
+{
+    let (bits, rest) = u32_at(bytes)?;
+    Ok((Variant::Int(bits.cast_signed() as i64), rest))
+}
+
+#[tactic(auto, unfolding(crate::specs::Reading::small_int_at))]
+fn int64_of(bytes: &[u8]) -> Result<(Variant, &[u8]), ReadError>
+    ensures { Gives (λ x. (plain x.0, x.1.now)) result (small_int_at w64 half64 bytes.now) }
+{
+    let (bits, rest) = u64_at(bytes)?;
+    Ok((Variant::Int(bits.cast_signed()), rest))
+}
+
+/// The first byte, 0 where there is none, and the bytes after it.
+fn first_of(bytes: &[u8]) -> (u8, &[u8])
+    ensures first { result.0 ≡ slice_index_or bytes.now 0 0 }
+    ensures rest { result.1.now ≡ drop 1 bytes.now }
+{
+    match bytes.split_first() {
+        Some((first, rest)) => (*first, rest),
+        None => (0, bytes),
+    }
+}
+
+/// The value whose compressed form is at the front, and the bytes after it.
+#[tactic(auto, unfolding(crate::specs::Reading::small_at, crate::specs::Reading::small_by))]
+pub fn small_of(alloc: Global, bytes: &[u8]) -> Result<(Variant, &[u8]), ReadError>
+    ensures { Gives (λ x. (plain x.0, x.1.now)) result (small_at bytes.now) }
+{
+    let (first, rest) = first_of(bytes);
+    match first {
+        1 => Ok((Variant::Bool(false), rest)),
+        129 => Ok((Variant::Bool(true), rest)),
+        2 => int8_of(rest),
+        66 => int16_of(rest),
+        130 => int32_of(rest),
+        194 => int64_of(rest),
+        _ => value_of(alloc, 33, bytes),
+    }
 }

@@ -11,4 +11,4 @@ items_of-loop-preserved t c =
 pub pairs_of-loop-preserved : goal.pairs_of-loop-preserved
 pairs_of-loop-preserved t c =
     goes_on_seen plain_pair (pair_by (value_at c.args.levels)) c.loop.items c.push.new.self c.args.count c.loop.counter c.loop.rest.now c.in_ok-item.item c.in_ok-item.after.now c.args.bytes.now c.loop-test.true
-      (ap (λ ps. pair_by (value_at c.args.levels) (map plain_pair ps) c.loop.rest.now) (sym c.as_slice.ensures) ∙ c.in_ok-item.ensures) c.in_ok-push.ensures.ok c.loop.invariant
+    (ap (λ ps. pair_by (value_at c.args.levels) (map plain_pair ps) c.loop.rest.now) (sym c.as_slice.ensures) ∙ c.in_ok-item.ensures) c.in_ok-push.ensures.ok c.loop.invariant
