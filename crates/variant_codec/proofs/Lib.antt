@@ -3,3 +3,4 @@ pub mod Pushed
 pub mod NewKeys
 pub mod Low
 pub mod Puts
+pub mod Laws
