@@ -215,3 +215,133 @@ then_reader {X} {Y} {read} {next} {R} {S} {B} {C} r each =
             | inr h ↦ bind_goes (read bytes) go (h.0, h.2) _ (ap read h.4 ∙ r.again h.0 h.1 h.2 h.3) ((each h.0).broken h.2 rest why h.5)
           ];
     }
+
+-- ---- lists
+
+record TookFrom {X : Type 0} (R : List X → Relation X) (before : List X) (n : ℕ) (bytes : List ℕ) (y : List X × List ℕ) : Type 0 where
+  xs : List X
+  front : List ℕ
+  all : y.0 ≡ before ++ xs
+  counted : length xs ≡ n
+  right : Each R before xs front
+  parts : bytes ≡ front ++ y.1
+  rest_fits : IsBytes y.1
+
+record BrokeFrom {X : Type 0} (R : List X → Relation X) (B : List X → Breaking) (before : List X) (n : ℕ) (bytes : List ℕ) (f : Fault) : Type 0 where
+  xs : List X
+  front : List ℕ
+  more : List ℕ
+  inner : List ℕ
+  rest : List ℕ
+  right : Each R before xs front
+  fewer : length xs < n
+  parts : bytes ≡ front ++ more
+  inner_parts : more ≡ inner ++ rest
+  left : f.left ≡ length rest
+  breaks : B (before ++ xs) more rest f.why
+
+-- one part before the others
+one_before : {X : Type 0} (before xs : List X) (x : X) → (before ++ x ∷ []) ++ xs ≡ before ++ x ∷ xs
+one_before before xs x = append_assoc before (x ∷ []) xs
+
+list_takes : {X : Type 0} {read : List X → Reader X} {R : List X → Relation X} {B : List X → Breaking} → ((before : List X) → IsReader (read before) (R before) (B before))
+    → (n : ℕ) (before : List X) (bytes : List ℕ) (y : List X × List ℕ) → IsBytes bytes → list_by read before n bytes ≡ Ok y → TookFrom R before n bytes y
+list_takes {R = R} each zero before bytes y fits e =
+    subst (TookFrom R before zero bytes) (ok_is _ y e) (record { xs = []; front = []; all = sym (append-nil before); counted = refl; right = refl; parts = refl; rest_fits = fits })
+list_takes {X} {read} {R} {B} each (suc n) before bytes y fits e =
+    let a = bind_ok (read before bytes) (λ x. list_by read (before ++ x.0 ∷ []) n x.1) y e in
+    let t = (each before).takes bytes a.0 fits a.1 in
+    let u = list_takes {B = B} each n (before ++ a.0.0 ∷ []) a.0.1 y t.rest_fits a.2 in
+    record {
+      xs = a.0.0 ∷ u.xs;
+      front = t.front ++ u.front;
+      all = u.all ∙ one_before before u.xs a.0.0;
+      counted = ap suc u.counted;
+      right = (t.front, u.front, t.right, u.right, refl);
+      parts = t.parts ∙ ap (λ (l : List ℕ). t.front ++ l) u.parts ∙ sym (append_assoc t.front u.front y.1);
+      rest_fits = u.rest_fits;
+    }
+
+list_again : {X : Type 0} {read : List X → Reader X} {R : List X → Relation X} {B : List X → Breaking} → ((before : List X) → IsReader (read before) (R before) (B before))
+    → (xs before : List X) (front rest : List ℕ) → Each R before xs front → list_by read before (length xs) (front ++ rest) ≡ Ok (before ++ xs, rest)
+list_again {read = read} each [] before front rest r = ap (λ (l : List ℕ). list_by read before zero (l ++ rest)) r ∙ ap (λ ys. Ok (ys, rest)) (sym (append-nil before))
+list_again {X} {read} {R} {B} each (x ∷ xs) before front rest r =
+    ap (λ (l : List ℕ). list_by read before (suc (length xs)) (l ++ rest)) r.4 ∙ ap (list_by read before (suc (length xs))) (append_assoc r.0 r.1 rest)
+    ∙ bind_goes (read before (r.0 ++ (r.1 ++ rest))) (λ y. list_by read (before ++ y.0 ∷ []) (length xs) y.1) (x, r.1 ++ rest) _ ((each before).again x r.0 (r.1 ++ rest) r.2)
+      (list_again {B = B} each xs (before ++ x ∷ []) r.1 rest r.3 ∙ ap (λ ys. Ok (ys, rest)) (one_before before xs x))
+
+list_breaks : {X : Type 0} {read : List X → Reader X} {R : List X → Relation X} {B : List X → Breaking} → ((before : List X) → IsReader (read before) (R before) (B before))
+    → (n : ℕ) (before : List X) (bytes : List ℕ) (f : Fault) → IsBytes bytes → list_by read before n bytes ≡ Err f → BrokeFrom R B before n bytes f
+list_breaks each zero before bytes f fits e = absurd (no_ok _ f e)
+list_breaks {X} {read} {R} {B} each (suc n) before bytes f fits e =
+    elim (bind_err (read before bytes) (λ x. list_by read (before ++ x.0 ∷ []) n x.1) f e) [
+      | inl h ↦
+        let b = (each before).breaks bytes f fits h in
+        record {
+          xs = []; front = []; more = bytes; inner = b.front; rest = b.rest; right = refl; fewer = omega arith; parts = refl; inner_parts = b.parts; left = b.left;
+          breaks = subst (λ ys. B ys bytes b.rest f.why) (sym (append-nil before)) b.breaks;
+        }
+      | inr h ↦
+        let t = (each before).takes bytes h.0 fits h.1 in
+        let u = list_breaks {B = B} each n (before ++ h.0.0 ∷ []) h.0.1 f t.rest_fits h.2 in
+        record {
+          xs = h.0.0 ∷ u.xs; front = t.front ++ u.front; more = u.more; inner = u.inner; rest = u.rest;
+          right = (t.front, u.front, t.right, u.right, refl);
+          fewer = (let lt = u.fewer in omega arith);
+          parts = t.parts ∙ ap (λ (l : List ℕ). t.front ++ l) u.parts ∙ sym (append_assoc t.front u.front u.more);
+          inner_parts = u.inner_parts;
+          left = u.left;
+          breaks = subst (λ ys. B ys u.more u.rest f.why) (one_before before u.xs h.0.0) u.breaks;
+        }
+    ]
+
+list_broken : {X : Type 0} {read : List X → Reader X} {R : List X → Relation X} {B : List X → Breaking} → ((before : List X) → IsReader (read before) (R before) (B before))
+    → (xs : List X) (n : ℕ) (before : List X) (front more rest : List ℕ) (why : Why) → Each R before xs front → length xs < n → B (before ++ xs) more rest why
+    → list_by read before n (front ++ more) ≡ Err (fault (length rest) why)
+list_broken each xs zero before front more rest why r lt b = absurd (omega (arith, lt))
+list_broken {X} {read} {R} {B} each [] (suc n) before front more rest why r lt b =
+    ap (λ (l : List ℕ). list_by read before (suc n) (l ++ more)) r
+    ∙ bind_fails (read before more) (λ y. list_by read (before ++ y.0 ∷ []) n y.1) _ ((each before).broken more rest why (subst (λ ys. B ys more rest why) (append-nil before) b))
+list_broken {X} {read} {R} {B} each (x ∷ xs) (suc n) before front more rest why r lt b =
+    ap (λ (l : List ℕ). list_by read before (suc n) (l ++ more)) r.4 ∙ ap (list_by read before (suc n)) (append_assoc r.0 r.1 more)
+    ∙ bind_goes (read before (r.0 ++ (r.1 ++ more))) (λ y. list_by read (before ++ y.0 ∷ []) n y.1) (x, r.1 ++ more) _ ((each before).again x r.0 (r.1 ++ more) r.2)
+      (list_broken {B = B} each xs n (before ++ x ∷ []) r.1 more rest why r.3 (omega (arith, lt)) (subst (λ ys. B ys more rest why) (sym (one_before before xs x)) b))
+
+pub list_reader : {X : Type 0} {read : List X → Reader X} {R : List X → Relation X} {B : List X → Breaking} → ((before : List X) → IsReader (read before) (R before) (B before))
+    → (n : ℕ) → IsReader (list_by read [] n) (EachOf R n) (EachBreaks R B n)
+list_reader {X} {read} {R} {B} each n = record {
+  takes = λ bytes y fits e.
+      let t = list_takes {B = B} each n [] bytes y fits e in
+      record { front = t.front; right = subst (λ ys. EachOf R n ys t.front) (sym t.all) (t.counted, t.right); parts = t.parts; rest_fits = t.rest_fits };
+  again = λ y front rest m. ap (λ k. list_by read [] k (front ++ rest)) (sym m.0) ∙ list_again {B = B} each y [] front rest m.1;
+  breaks = λ bytes f fits e.
+      let u = list_breaks {B = B} each n [] bytes f fits e in
+      record {
+        front = u.front ++ u.inner;
+        rest = u.rest;
+        parts = u.parts ∙ ap (λ (l : List ℕ). u.front ++ l) u.inner_parts ∙ sym (append_assoc u.front u.inner u.rest);
+        left = u.left;
+        breaks = (u.xs, u.front, u.more, u.right, u.fewer, u.parts, u.breaks);
+      };
+  broken = λ bytes rest why b. ap (list_by read [] n) b.5 ∙ list_broken {B = B} each b.0 n [] b.1 b.2 rest why b.3 b.4 b.6;
+}
+
+-- parts that are one field: none of them fails where there are bytes enough
+pub whole_reader : {X : Type 0} (size : ℕ) {read : Reader X} {R : Relation X} {B : Breaking} → IsReader read R B
+    → ((x : X) (b : List ℕ) → R x b → length b ≡ size) → ((b rest : List ℕ) (why : Why) → B b rest why → length b < size) → IsReader (whole_by size read) R (IsShort size)
+whole_reader size {read} {R} {B} r sized enough = record {
+  takes = λ bytes y fits e.
+      elim (chosen (ltb (length bytes) size) _ _ _ e) [
+        | inl h ↦ absurd (no_err _ y h.1)
+        | inr h ↦ r.takes bytes y fits h.1
+      ];
+  again = λ y front rest m.
+      let long : ltb (length (front ++ rest)) size ≡ false = le-ltb _ _ (omega (arith, length-append front rest, sized y front m)) in
+      rw long (r.again y front rest m);
+  breaks = λ bytes f fits e.
+      elim (chosen (ltb (length bytes) size) _ _ _ e) [
+        | inl h ↦ here (IsShort size) bytes f Short (err_is _ f h.1) (ltb-true _ _ h.0, refl, refl)
+        | inr h ↦ let b = r.breaks bytes f fits h.1 in absurd (omega (arith, ltb-false _ _ h.0, enough bytes b.rest f.why b.breaks))
+      ];
+  broken = λ bytes rest why b. rw (lt-ltb (length bytes) size b.0) (ap (λ (l : List ℕ). Err (fault (length l) Short)) (sym b.1) ∙ ap (λ y. Err (fault (length rest) y)) (sym b.2));
+}
