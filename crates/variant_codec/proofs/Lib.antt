@@ -4,3 +4,4 @@ pub mod NewKeys
 pub mod Low
 pub mod Puts
 pub mod Laws
+pub mod Fields

@@ -98,7 +98,7 @@ BodyBreaks R B form.Bytes code wide = PaddedBreaks
 BodyBreaks R B form.Shorts code wide = ElementsBreak 4
 BodyBreaks R B form.Longs code wide = ElementsBreak 8
 BodyBreaks R B form.Texts code wide = PackedTextsBreak
-BodyBreaks R B form.Elements code wide = ElementsBreak (element_size code wide)
+BodyBreaks R B form.Elements code wide = ThenBreaks Word WordBreaks (λ n. IsShort (n * element_size code wide))
 
 -- a form of a tree of so many levels at most; a tree that holds none has one
 abbrev pub SpellsWithin : ℕ → Relation Tree
