@@ -5,3 +5,6 @@ pub mod Low
 pub mod Puts
 pub mod Laws
 pub mod Fields
+pub mod Codes
+pub mod Bodies
+pub mod Trees
