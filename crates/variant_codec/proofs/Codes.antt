@@ -38,7 +38,7 @@ implied false b h e = absurd cc
 
 -- ---- from a layout to its type numbers
 
-abbrev told_test : Form → ℕ → Bool
+abbrev pub told_test : Form → ℕ → Bool
 told_test form.Nil c = nat_eq c 0
 told_test form.Bool c = nat_eq c 1
 told_test form.Int c = nat_eq c 2

@@ -8,3 +8,4 @@ pub mod Fields
 pub mod Codes
 pub mod Bodies
 pub mod Trees
+pub mod Whole
