@@ -41,13 +41,13 @@ ok x = Ok x
 abbrev fails : {A : Type 0} → Fault → Result A Fault
 fails d = Err d
 
-no_ok : {A : Type 0} (x : A) (f : Fault) → ok x ≡ fails f → ⊥
+pub no_ok : {A : Type 0} (x : A) (f : Fault) → ok x ≡ fails f → ⊥
 no_ok x f e = cc
 
 pub no_err : {A : Type 0} (d : Fault) (y : A) → fails d ≡ ok y → ⊥
 no_err d y e = cc
 
-err_is : {A : Type 0} (d f : Fault) → fails {A = A} d ≡ fails f → d ≡ f
+pub err_is : {A : Type 0} (d f : Fault) → fails {A = A} d ≡ fails f → d ≡ f
 err_is d f e = cc
 
 -- the step that failed
@@ -63,7 +63,7 @@ pub bind_goes : {A B : Type 0} (r : Result A Fault) (f : A → Result B Fault) (
 bind_goes r f x y e h = rw e h
 
 -- a fault at the front of the bytes
-here : (B : Breaking) (bytes : List ℕ) (f : Fault) (why : Why) → fault (length bytes) why ≡ f → B bytes bytes why → Broke B bytes f
+pub here : (B : Breaking) (bytes : List ℕ) (f : Fault) (why : Why) → fault (length bytes) why ≡ f → B bytes bytes why → Broke B bytes f
 here B bytes f why e b = subst (Broke B bytes) e (record { front = []; rest = bytes; parts = refl; left = refl; breaks = b })
 
 -- ---- one field

@@ -20,7 +20,7 @@ use Rattle.variant_codec.proofs.Codes.{told_test, told, head_is, flagless, flagg
 use Rattle.variant_codec.proofs.Fields.{each_to, each_from, header_reader}
 use Rattle.variant_codec.proofs.Bodies.{SignedOf, PathNames, PathBody, ArrayBody, DictBody, Body, body_reader}
 use Rattle.variant_codec.proofs.Trees.{count_trees, list_of, list_back, list_count, all_to, deep_to, all_from, pairs_list, pairs_back, count_pairs, pairs_all, pairs_deep, pairs_distinct, pairs_from}
-use Rattle.variant_codec.proofs.Laws.{IsReader, then_reader, seen}
+use Rattle.variant_codec.proofs.Laws.{IsReader, no_err, err_is, here, then_reader, seen}
 
 headed : (c : ℕ) (wide : Bool) (R : List ℕ → Type 0) (head : ℕ) (body : List ℕ) → head ≡ c + flag wide → R body → Headed c wide R (word w32 head ++ body)
 headed c wide R head body e r = record { body = body; right = r; form = ap (λ h. word w32 h ++ body) e }
@@ -266,3 +266,101 @@ form_to n form.Elements head t more is flags room (m, front, rest, (lt, w), (s, 
 value_to : (n : ℕ) (t : Tree) (b : List ℕ) → Then (Header (nat_lt 0 n)) (λ head. Body (V n) (form_of (code_in head)) (code_in head) (is_wide head)) t b → SpellsWithin (suc n) t b
 value_to n t b (head, front, more, (room, (flags, (carried, (kind, (lt, is))))), body, parts) =
     subst (SpellsWithin (suc n) t) (sym (parts ∙ ap (λ (l : List ℕ). l ++ more) is)) (form_to n (form_of (code_in head)) head t more (told head kind carried) flags room body)
+
+-- ---- from a form to a header and a body
+
+abbrev Raw : ℕ → Relation Tree
+Raw n = Then (Header (nat_lt 0 n)) (λ head. Body (V n) (form_of (code_in head)) (code_in head) (is_wide head))
+
+moved : (R : Relation Tree) (f g : Form) (c d : ℕ) (w v : Bool) (t : Tree) (b : List ℕ) → f ≡ g → c ≡ d → w ≡ v → Body R f c w t b → Body R g d v t b
+moved R f g c d w v t b ef ec ew h = subst (λ x. Body R g d x t b) ew (subst (λ k. Body R g k w t b) ec (subst (λ x. Body R x c w t b) ef h))
+
+from_head : (n : ℕ) (f : Form) (c : ℕ) (wide : Bool) (P : List ℕ → Type 0) (t : Tree) (b : List ℕ) → c < 39 → form_of c ≡ f → is_kind (c + flag wide) ≡ true → is_carried (c + flag wide) ≡ true → has_right_flags (c + flag wide) ≡ true
+    → has_room (nat_lt 0 n) (c + flag wide) ≡ true → (h : Headed c wide P b) → Body (V n) f c wide t h.body → Raw n t b
+from_head n f c wide P t b small named kind carried flags room h body =
+    let lt : c < 65536 = omega (arith, small) in
+    let code = code_back c wide lt in
+    (c + flag wide, header c wide, h.body, (room, (flags, (carried, (kind, (head_fits c wide lt, refl))))),
+      moved (V n) f (form_of (code_in (c + flag wide))) c (code_in (c + flag wide)) wide (is_wide (c + flag wide)) t h.body (sym (ap form_of code ∙ named)) (sym code) (sym (wide_back c wide lt)) body, h.form)
+
+from_good : (n : ℕ) (f : Form) (c : ℕ) (wide : Bool) (P : List ℕ → Type 0) (t : Tree) (b : List ℕ) → GoodHead f c wide → (h : Headed c wide P b) → Body (V n) f c wide t h.body → Raw n t b
+from_good n f c wide P t b g h body =
+    from_head n f c wide P t b g.small g.named g.kind g.carried g.flags (rw g.flat (or_true (nat_lt 0 n))) h body
+
+-- a type of one kind, whose values hold none
+flat_head : (c : ℕ) (wide : Bool) (f : Form) → nat_lt c 39 ≡ true → form_of c ≡ f → is_kind (c + flag wide) ≡ true → is_carried (c + flag wide) ≡ true → has_right_flags (c + flag wide) ≡ true → holds_values (code_in (c + flag wide)) ≡ false → GoodHead f c wide
+flat_head c wide f lt named kind carried flags flat = record { small = ltb-true c 39 lt; named = named; kind = kind; carried = carried; flags = flags; flat = flat }
+
+numbered_from : {X : Type 0} (R : Relation X) (xs : List X) (see : List X → Tree) (b : List ℕ) → Numbered (length xs) (SpellsEach R xs) b → Then Word (λ n. Mapped see (EachOf (λ _. R) n)) (see xs) b
+numbered_from R xs see b s = (length xs, word w32 (length xs), s.body, (s.short, refl), (xs, refl, (refl, each_from R [] xs s.body s.right)), s.form)
+
+array_from : (n : ℕ) (ts : Trees) (b : List ℕ) → deepest ts < n → Counted (count ts) (λ body. SpellsAll ts body) b → ArrayBody (V n) (array ts) b
+array_from n ts b lt s =
+    let c = bit_back (count ts) s.bit s.short in
+    (count ts + shared s.bit, word w32 (count ts + shared s.bit), s.body, (c.0, refl),
+      (list_of ts, ap array (sym (list_back ts)), (list_count ts ∙ sym c.1, all_from n [] ts s.body lt s.right)), s.form)
+
+dict_from : (n k : ℕ) (ts : Trees) (b : List ℕ) → deepest ts < n → keys_distinct ts ≡ true → count ts ≡ 2 * k → Counted k (λ body. SpellsAll ts body) b → DictBody (V n) (dict ts) b
+dict_from n k ts b lt distinct counted s =
+    let c = bit_back k s.bit s.short in
+    let back = pairs_back ts distinct in
+    let len : length (pairs_list ts) ≡ k = omega (arith, count_pairs (pairs_list ts), ap count back, counted) in
+    (k + shared s.bit, word w32 (k + shared s.bit), s.body, (c.0, refl),
+      (pairs_list ts, ap dict (sym back), (len ∙ sym c.1, pairs_from n [] ts s.body distinct refl lt s.right)), s.form)
+
+opaque_from : (n c : ℕ) (wide : Bool) (s b : List ℕ) (big : Bool) → nat_le 32 c ≡ big → Headed c wide (SpellsOpaque c wide s) b → Raw n (opaque c wide s) b
+opaque_from n c wide s b false e h =
+    let p = fixed_parts c wide (length s) e h.right.0 in
+    from_good n form.Fixed c wide (SpellsOpaque c wide s) (opaque c wide s) b (fixed_head c wide e p.some p.wide_ok) h (s, refl, (p.sized, rw e at h.right.1))
+opaque_from n c wide s b true e h =
+    let p = packed_parts c wide (length s) e h.right.0 in
+    let k = length s / element_size c wide in
+    from_good n form.Elements c wide (SpellsOpaque c wide s) (opaque c wide s) b (elements_head c wide e p.some p.wide_ok) h (k, word w32 k, s, (p.fits, refl), (s, refl, (p.sized, refl)), rw e at h.right.1)
+
+-- the dictionary or array stands where there is room
+room_for : (n deep : ℕ) → suc deep < suc n → nat_lt 0 n ≡ true
+room_for n deep lt = lt-ltb 0 n (omega (arith, lt))
+
+value_from : (n : ℕ) (t : Tree) (b : List ℕ) → SpellsWithin (suc n) t b → Raw n t b
+unfolding form_of
+value_from n nil b (lt, h) = from_good n form.Nil 0 false (λ x. x ≡ []) nil b (flat_head 0 false form.Nil refl refl refl refl refl refl) h (refl, h.right)
+value_from n (boolean x) b (lt, h) =
+    from_good n form.Bool 1 false (SpellsBool x) (boolean x) b (flat_head 1 false form.Bool refl refl refl refl refl refl) h (h.right.bits, ap boolean (sym h.right.is), (h.right.fits, h.right.form))
+value_from n (int z) b (lt, inl h) = from_good n form.Int 2 false (SpellsShort z) (int z) b (flat_head 2 false form.Int refl refl refl refl refl refl) h (z, refl, h.right)
+value_from n (int z) b (lt, inr h) = from_good n form.Int 2 true (SpellsLong z) (int z) b (flat_head 2 true form.Int refl refl refl refl refl refl) h (z, refl, h.right)
+value_from n (text s) b (lt, h) = from_good n form.Text 4 false (SpellsText s) (text s) b (flat_head 4 false form.Text refl refl refl refl refl refl) h (s, refl, h.right)
+value_from n (name s) b (lt, h) = from_good n form.Name 21 false (SpellsText s) (name s) b (flat_head 21 false form.Name refl refl refl refl refl refl) h (s, refl, h.right)
+value_from n (path a ns ss) b (lt, h) =
+    from_good n form.Path 22 false (SpellsPath (path_flags a) ns ss) (path a ns ss) b (flat_head 22 false form.Path refl refl refl refl refl refl) h (path_from a ns ss h.body h.right)
+value_from n (ints c zs) b (lt, h) =
+    from_good n form.Ints c false (SpellsInts c zs) (ints c zs) b (ints_head c h.right.0) h (zs, refl, (h.right.1, each_from SpellsShort [] zs h.body h.right.2))
+value_from n (opaque c wide s) b (lt, h) = opaque_from n c wide s b (nat_le 32 c) refl h
+value_from n (dict ts) b (lt, (distinct, k, counted, h)) =
+    from_head n form.Dict 27 false (Counted k (λ body. SpellsAll ts body)) (dict ts) b (ltb-true 27 39 refl) refl refl refl refl (ap (λ x. x || not (holds_values 27)) (room_for n (deepest ts) lt)) h
+      (dict_from n k ts h.body (omega (arith, lt)) distinct counted h.right)
+value_from n (array ts) b (lt, h) =
+    from_head n form.Array 28 false (Counted (count ts) (λ body. SpellsAll ts body)) (array ts) b (ltb-true 28 39 refl) refl refl refl refl (ap (λ x. x || not (holds_values 28)) (room_for n (deepest ts) lt)) h
+      (array_from n ts h.body (omega (arith, lt)) h.right)
+value_from n (packed_bytes s) b (lt, h) = from_good n form.Bytes 29 false (Padded s) (packed_bytes s) b (flat_head 29 false form.Bytes refl refl refl refl refl refl) h (s, refl, h.right)
+value_from n (packed_ints false zs) b (lt, h) =
+    from_good n form.Shorts 30 false (Numbered (length zs) (SpellsEach SpellsShort zs)) (packed_ints false zs) b (flat_head 30 false form.Shorts refl refl refl refl refl refl) h (numbered_from SpellsShort zs (λ ys. packed_ints false ys) h.body h.right)
+value_from n (packed_ints true zs) b (lt, h) =
+    from_good n form.Longs 31 false (Numbered (length zs) (SpellsEach SpellsLong zs)) (packed_ints true zs) b (flat_head 31 false form.Longs refl refl refl refl refl refl) h (numbered_from SpellsLong zs (λ ys. packed_ints true ys) h.body h.right)
+value_from n (packed_texts ts) b (lt, h) =
+    from_good n form.Texts 34 false (Numbered (length ts) (SpellsEach SpellsElement ts)) (packed_texts ts) b (flat_head 34 false form.Texts refl refl refl refl refl refl) h (numbered_from SpellsElement ts packed_texts h.body h.right)
+
+-- ---- the four laws of a value
+
+no_room : IsReader (value_at zero) (SpellsWithin zero) (Breaks zero)
+unfolding value_at
+no_room = record {
+  takes = λ bytes x fits e. absurd (no_err _ x e);
+  again = λ x front rest r. absurd (omega (arith, r.0));
+  breaks = λ bytes f fits e. here (Breaks zero) bytes f Depth (err_is _ f e) (refl, refl);
+  broken = λ bytes rest why b. ap (λ (l : List ℕ). Err (fault (length l) Depth)) (sym b.0) ∙ ap (λ y. Err (fault (length rest) y)) (sym b.1);
+}
+
+pub value_reader : (n : ℕ) → IsReader (value_at n) (SpellsWithin n) (Breaks n)
+unfolding value_at
+value_reader zero = no_room
+value_reader (suc n) = seen (then_reader (header_reader (nat_lt 0 n)) (λ head. body_reader (value_reader n) (form_of (code_in head)) (code_in head) (is_wide head))) (value_to n) (value_from n)
