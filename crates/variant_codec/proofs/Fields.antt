@@ -130,10 +130,10 @@ element_reader = seen (then_reader word32 (λ n. checked_reader is_text Utf8 (ma
 abbrev pub Signed : Width → ℕ → Relation ℤ
 Signed w half z b = IsWithin half z × (b ≡ word w (bits_of half z))
 
-signed_to : (w : Width) (half : ℕ) (z : ℤ) (b : List ℕ) → Mapped (signed_of half) (IsWord w (2 * half)) z b → Signed w half z b
+pub signed_to : (w : Width) (half : ℕ) (z : ℤ) (b : List ℕ) → Mapped (signed_of half) (IsWord w (2 * half)) z b → Signed w half z b
 signed_to w half z b (n, e, r) = (subst (IsWithin half) (sym e) (signed_of-within half n r.0), r.1 ∙ ap (word w) (sym (ap (bits_of half) e ∙ bits_of-signed_of half n r.0)))
 
-signed_from : (w : Width) (half : ℕ) (z : ℤ) (b : List ℕ) → Signed w half z b → Mapped (signed_of half) (IsWord w (2 * half)) z b
+pub signed_from : (w : Width) (half : ℕ) (z : ℤ) (b : List ℕ) → Signed w half z b → Mapped (signed_of half) (IsWord w (2 * half)) z b
 signed_from w half z b (fits, e) = (bits_of half z, sym (signed_of-bits_of half z fits), (bits_of-below half z fits, e))
 
 pub signed_reader : (w : Width) (half : ℕ) → IsWide w (2 * half) → IsReader (mapped_by (signed_of half) (number_at w)) (Signed w half) (IsShort (byte_len w))

@@ -9,3 +9,4 @@ pub mod Codes
 pub mod Bodies
 pub mod Trees
 pub mod Whole
+pub mod Small

@@ -364,3 +364,11 @@ pub value_reader : (n : ℕ) → IsReader (value_at n) (SpellsWithin n) (Breaks 
 unfolding value_at
 value_reader zero = no_room
 value_reader (suc n) = seen (then_reader (header_reader (nat_lt 0 n)) (λ head. body_reader (value_reader n) (form_of (code_in head)) (code_in head) (is_wide head))) (value_to n) (value_from n)
+
+-- the header of floats
+pub opaque_head : (c : ℕ) (wide : Bool) (n : ℕ) → opaque_right c wide n ≡ true → GoodHead form.Fixed c wide ⊎ GoodHead form.Elements c wide
+opaque_head c wide n h =
+    elim (cases_Bool (nat_le 32 c)) [
+      | inl big ↦ let p = packed_parts c wide n big h in inr (elements_head c wide big p.some p.wide_ok)
+      | inr small ↦ let p = fixed_parts c wide n small h in inl (fixed_head c wide small p.some p.wide_ok)
+    ]
