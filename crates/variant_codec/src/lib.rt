@@ -4,9 +4,17 @@
 //! project's profile, which docs/FORMATS.md describes.
 #![tactic(auto)]
 
+mod codec;
 mod form;
 mod parts;
 mod reading;
 mod writing;
 
+pub use codec::{
+    decode, decode_small, encode, encode_small, no_form_begins_another,
+    no_small_form_begins_another, written_form, written_small_form,
+};
 pub use form::Form;
+pub use parts::{fault_at, raw_of, text_of};
+pub use reading::{small_of, value_of};
+pub use writing::{put, put_small};
