@@ -1,9 +1,8 @@
 -- The readers of what stands behind a header, by their laws.
-use Rattle.std.proofs.Common.{◌≡◌, ℕ, zero, suc, ◌+◌, ◌-◌, ◌*◌, ◌^◌, ◌<◌, ◌≤◌, Bool, true, false, List, [], ◌∷◌, ◌++◌, length, refl, sym, ap, subst, ◌∙◌, append_assoc, arith}
+use Rattle.std.proofs.Common.{◌≡◌, ℕ, zero, suc, ◌+◌, ◌-◌, ◌*◌, ◌^◌, ◌<◌, Bool, true, false, List, [], ◌∷◌, ◌++◌, length, refl, sym, ap, subst, ◌∙◌, arith}
 use Rattle.std.specs.Prelude.{ℤ, nat_eq}
 use Rattle.std.specs.Int.{w32, w64}
 use Rattle.std.proofs.lemmas.List.{length-append}
-use Rattle.byte_fields.specs.Fields.{word, number_at}
 use Rattle.byte_fields.specs.Complement.{bits_of, half32, half64}
 use Rattle.byte_fields.proofs.Fields.{wide32, wide64, length-word}
 use Rattle.gd_variant.specs.declared.message.Why.{Why}
@@ -13,8 +12,8 @@ use Rattle.gd_variant.specs.Sound.{ints_count, components, at_or, component_size
 use Rattle.variant_codec.specs.declared.form.Form.{Form}
 use Rattle.variant_codec.specs.declared.form.Form.TheVariants as form
 use Rattle.variant_codec.specs.Parts.{Padded, SpellsText, SpellsElement, SpellsShort, SpellsLong, truth}
-use Rattle.variant_codec.specs.Readers.{Reader, Relation, Breaking, IsWord, IsRaw, IsShort, IsDone, Mapped, Checked, Then, ThenBreaks, Each, EachOf, EachBreaks, list_by, whole_by}
-use Rattle.variant_codec.specs.Reading.{bool_at, int_at, has_names_bit, is_path_flags, path_of, path_at, ints_at, fixed_at, packed_at, bytes_at, packed_shorts_at, packed_longs_at, packed_texts_at, short_at, long_at, shorts_of, longs_of, texts_of, without_bit, is_new_to, pair_tree, array_by, pair_by, dict_by, body_by}
+use Rattle.variant_codec.specs.Readers.{Reader, Relation, Breaking, IsRaw, IsShort, IsDone, Mapped, Checked, Then, ThenBreaks, Each, EachOf, EachBreaks, whole_by}
+use Rattle.variant_codec.specs.Reading.{bool_at, int_at, has_names_bit, is_path_flags, path_of, path_at, ints_at, fixed_at, packed_at, bytes_at, packed_shorts_at, packed_longs_at, packed_texts_at, shorts_of, longs_of, texts_of, without_bit, is_new_to, pair_tree, array_by, pair_by, dict_by, body_by}
 use Rattle.variant_codec.specs.Breaks.{Word, WordBreaks, TextsBreak, PathBreaks, Pair, PairBreaks, DictBreaks, ArrayBreaks, BodyBreaks}
 use Rattle.variant_codec.proofs.Laws.{IsReader, raw_reader, done_reader, mapped_reader, checked_reader, then_reader, list_reader, whole_reader, seen}
 use Rattle.variant_codec.proofs.Fields.{word32, names_reader, flags_reader, padded_reader, text_reader, element_reader, short_reader, long_reader}

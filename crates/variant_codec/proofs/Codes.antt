@@ -1,11 +1,11 @@
 -- What the layout of a type number tells, checked over all of them.
-use Rattle.std.proofs.Common.{◌≡◌, ℕ, zero, suc, ◌+◌, ◌*◌, ◌/◌, ◌%◌, ◌^◌, ◌<◌, ◌≤◌, Bool, true, false, cond, eqb, List, refl, sym, ap, ◌∙◌, arith, inl, inr, ◌⊎◌}
+use Rattle.std.proofs.Common.{◌≡◌, ℕ, zero, suc, ◌+◌, ◌*◌, ◌/◌, ◌^◌, ◌<◌, Bool, true, false, cond, refl, sym, ap, ◌∙◌, arith, inl, inr}
 use Rattle.std.specs.Prelude.{not, ◌&&◌, ◌||◌, nat_eq, nat_le, nat_lt}
-use Rattle.std.proofs.lemmas.Bool.{and_parts, and_from, or_cases, eqb-true, eqb-false, eq-eqb, leb-true, leb-false, lt-leb, cases_lt, cases_Bool}
+use Rattle.std.proofs.lemmas.Bool.{and_parts, and_from, or_cases, eqb-true, eqb-false, leb-true, leb-false, cases_lt, cases_Bool}
 use Rattle.gd_variant.specs.Sound.{ints_count, components, at_or, component_size, element_size, may_be_wide}
 use Rattle.variant_codec.specs.declared.form.Form.{Form}
 use Rattle.variant_codec.specs.declared.form.Form.TheVariants as form
-use Rattle.variant_codec.specs.Header.{flag, code_in, is_wide, is_kind, is_carried, may_be_flagged, has_right_flags, holds_values, has_room, form_of}
+use Rattle.variant_codec.specs.Header.{flag, code_in, is_wide, is_kind, is_carried, may_be_flagged, has_right_flags, holds_values, form_of}
 
 -- a test of all numbers below one
 abbrev all_below : (ℕ → Bool) → ℕ → Bool
@@ -72,8 +72,8 @@ head_is head h =
     elim (or_cases (nat_eq (head / 65536) 0) (is_wide head && may_be_flagged (code_in head)) h) [
       | inl z ↦ let e : head / 65536 ≡ 0 = eqb-true _ 0 z in rw e (omega arith)
       | inr w ↦
-        let one : head / 65536 ≡ 1 = eqb-true _ 1 (and_parts (is_wide head) (may_be_flagged (code_in head)) w).0 in
-        rw one (omega arith)
+          let one : head / 65536 ≡ 1 = eqb-true _ 1 (and_parts (is_wide head) (may_be_flagged (code_in head)) w).0 in
+          rw one (omega arith)
     ]
 
 -- a type without the flag
@@ -89,15 +89,15 @@ pub flagged : (head : ℕ) → has_right_flags head ≡ true → (may_be_wide (c
 flagged head h wide =
     elim (cases_Bool (is_wide head)) [
       | inl w ↦
-        elim (or_cases (nat_eq (head / 65536) 0) (is_wide head && may_be_flagged (code_in head)) h) [
-          | inl z ↦ let e : head / 65536 ≡ 0 = eqb-true _ 0 z in let f : is_wide head ≡ false = rw e refl in absurd cc
-          | inr v ↦
-            let f : may_be_flagged (code_in head) ≡ true = (and_parts (is_wide head) (may_be_flagged (code_in head)) v).1 in
-            elim (or_cases (may_be_wide (code_in head)) (not (may_be_flagged (code_in head))) wide) [
-              | inl m ↦ rw m refl
-              | inr m ↦ let g : may_be_flagged (code_in head) ≡ false = not_true _ m in absurd cc
-            ]
-        ]
+          elim (or_cases (nat_eq (head / 65536) 0) (is_wide head && may_be_flagged (code_in head)) h) [
+            | inl z ↦ let e : head / 65536 ≡ 0 = eqb-true _ 0 z in let f : is_wide head ≡ false = rw e refl in absurd cc
+            | inr v ↦
+                let f : may_be_flagged (code_in head) ≡ true = (and_parts (is_wide head) (may_be_flagged (code_in head)) v).1 in
+                elim (or_cases (may_be_wide (code_in head)) (not (may_be_flagged (code_in head))) wide) [
+                  | inl m ↦ rw m refl
+                  | inr m ↦ let g : may_be_flagged (code_in head) ≡ false = not_true _ m in absurd cc
+                ]
+          ]
       | inr n ↦ rw n (or_true (may_be_wide (code_in head)))
     ]
 

@@ -1,22 +1,21 @@
 -- The readers of a value's parts, by their laws.
-use Rattle.std.proofs.Common.{◌≡◌, ℕ, zero, suc, ◌+◌, ◌-◌, ◌*◌, ◌%◌, ◌^◌, ◌<◌, ◌≤◌, Bool, true, false, eqb, List, [], ◌∷◌, ◌++◌, length, take, drop, get_or, refl, sym, ap, subst, ◌∙◌, append_assoc, arith, inl, inr, ◌⊎◌}
-use Rattle.std.specs.Prelude.{ℤ, not, ◌&&◌, nat_eq}
-use Rattle.std.specs.Int.{Width, w8, w16, w32, w64, byte_len}
-use Rattle.std.specs.List.{list_all}
-use Rattle.std.proofs.lemmas.Bool.{and_parts, eqb-true, eq-eqb, ne_eqb, cases_Bool, ltb-true}
+use Rattle.std.proofs.Common.{◌≡◌, ℕ, zero, suc, ◌+◌, ◌-◌, ◌*◌, ◌^◌, ◌<◌, Bool, true, false, List, [], ◌∷◌, ◌++◌, length, take, drop, get_or, refl, sym, ap, subst, ◌∙◌, arith, inl, inr, ◌⊎◌}
+use Rattle.std.specs.Prelude.{ℤ, not, nat_eq}
+use Rattle.std.specs.Int.{Width, w32, w64, byte_len}
+use Rattle.std.proofs.lemmas.Bool.{and_parts, eqb-true}
 use Rattle.std.proofs.lemmas.List.{length-append, length-take, length-drop, take_at, take_all, take_more, take-append-drop}
 use Rattle.byte_fields.specs.Fields.{word, number_at}
-use Rattle.byte_fields.specs.Complement.{IsWithin, bits_of, signed_of, half8, half16, half32, half64}
-use Rattle.byte_fields.proofs.Fields.{IsWide, wide8, wide16, wide32, wide64}
+use Rattle.byte_fields.specs.Complement.{IsWithin, bits_of, signed_of, half32, half64}
+use Rattle.byte_fields.proofs.Fields.{IsWide, wide32, wide64}
 use Rattle.byte_fields.proofs.Complement.{signed_of-bits_of, bits_of-below, bits_of-signed_of, signed_of-within}
 use Rattle.gd_variant.specs.declared.message.Why.TheVariants.{HeaderBits, Kind, NotCarried, Utf8, Depth, OldPath, PathFlags}
 use Rattle.gd_variant.specs.Sound.{has_no_zero, is_text}
 use Rattle.variant_codec.specs.Header.{is_kind, is_carried, has_right_flags, has_room}
 use Rattle.variant_codec.specs.Parts.{padding, Padded, SpellsText, SpellsElement, SpellsShort, SpellsLong, SpellsEach}
-use Rattle.variant_codec.specs.Readers.{Relation, Breaking, mapped_by, IsWord, IsShort, IsRaw, Mapped, Checked, CheckBreaks, Then, Each, EachOf}
+use Rattle.variant_codec.specs.Readers.{Relation, mapped_by, IsWord, IsShort, Mapped, Checked, CheckBreaks, Then, Each}
 use Rattle.variant_codec.specs.Reading.{header_at, padded_of, padded_at, stripped, text_at, element_at, short_at, long_at, names_at, flags_at, has_names_bit, is_path_flags}
 use Rattle.variant_codec.specs.Breaks.{Word, WordBreaks, Header, HeaderBreaks, PaddedOf, PaddedBreaks, TextBreaks, ElementBreaks}
-use Rattle.variant_codec.proofs.Laws.{IsReader, word_reader, raw_reader, mapped_reader, checked_reader, then_reader, turned, seen}
+use Rattle.variant_codec.proofs.Laws.{IsReader, word_reader, raw_reader, mapped_reader, checked_reader, then_reader, seen}
 
 pub word32 : IsReader (number_at w32) Word WordBreaks
 word32 = word_reader w32 (2 ^ 32) wide32
@@ -105,17 +104,19 @@ ended (c ∷ s) true e =
     let len : length (c ∷ s) - 1 + 1 ≡ length (c ∷ s) = omega arith in
     let lt : length (c ∷ s) - 1 < length (c ∷ s) = omega arith in
     let whole : c ∷ s ≡ take (length (c ∷ s) - 1) (c ∷ s) ++ 0 ∷ [] =
-        sym (take_all (length (c ∷ s)) (c ∷ s) (omega arith)) ∙ ap (λ k. take k (c ∷ s)) (sym len) ∙ take_more (c ∷ s) (length (c ∷ s) - 1) 1 lt ∙ ap (λ z. take (length (c ∷ s) - 1) (c ∷ s) ++ z ∷ []) last in
+    sym (take_all (length (c ∷ s)) (c ∷ s) (omega arith)) ∙ ap (λ k. take k (c ∷ s)) (sym len) ∙ take_more (c ∷ s) (length (c ∷ s) - 1) 1 lt ∙ ap (λ z. take (length (c ∷ s) - 1) (c ∷ s) ++ z ∷ []) last in
     inr (whole ∙ ap (λ (f : List ℕ). f ++ 0 ∷ []) (sym (rw e refl)))
 
 element_to : (t b : List ℕ) → Then Word (λ n. Checked is_text (Mapped stripped (PaddedOf n))) t b → SpellsElement t b
 element_to t b (n, front, more, w, p, e) =
     let s = p.1.0 in
-    let q : Padded s b = padded_to s b (n, front, more, w, p.1.2, e) in
-    (p.0, elim (ended s _ refl) [
-      | inl h ↦ inl (subst (λ u. Padded u b) (sym (p.1.1 ∙ h)) q)
-      | inr h ↦ inr (subst (λ u. Padded u b) (h ∙ ap (λ (u : List ℕ). u ++ 0 ∷ []) (sym p.1.1)) q)
-    ])
+    let q : Padded s b = padded_to s b (n, front, more, w, p.1.2, e) in (
+      p.0,
+      elim (ended s _ refl) [
+        | inl h ↦ inl (subst (λ u. Padded u b) (sym (p.1.1 ∙ h)) q)
+        | inr h ↦ inr (subst (λ u. Padded u b) (h ∙ ap (λ (u : List ℕ). u ++ 0 ∷ []) (sym p.1.1)) q)
+      ],
+    )
 
 element_from : (t b : List ℕ) → SpellsElement t b → Then Word (λ n. Checked is_text (Mapped stripped (PaddedOf n))) t b
 element_from t b (h, inl p) = let q = padded_from t b p in (q.0, q.1, q.2, q.3, (h, (t, sym (stripped_text t h), q.4)), q.5)

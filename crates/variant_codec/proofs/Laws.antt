@@ -1,13 +1,13 @@
 -- The four laws of a reader: what is read is right, what is right is read whatever follows, where
 -- reading fails the bytes break, and where they break reading fails. Each way to put readers together
 -- keeps them.
-use Rattle.std.proofs.Common.{◌≡◌, ℕ, zero, suc, ◌+◌, ◌<◌, ◌≤◌, Bool, true, false, cond, ltb, List, [], ◌∷◌, ◌++◌, length, take, drop, Result, Ok, Err, refl, sym, ap, subst, ◌∙◌, append_assoc, arith, inl, inr, ◌⊎◌}
+use Rattle.std.proofs.Common.{◌≡◌, ℕ, zero, suc, ◌<◌, ◌≤◌, Bool, false, cond, ltb, List, [], ◌∷◌, ◌++◌, length, take, Result, Ok, Err, refl, sym, ap, subst, ◌∙◌, append_assoc, arith, inl, inr, ◌⊎◌}
 use Rattle.std.specs.Int.{Width, byte_len}
 use Rattle.std.proofs.lemmas.Bool.{ltb-true, ltb-false, lt-ltb, le-ltb}
 use Rattle.std.proofs.lemmas.List.{append-nil, length-append, length-take, take_at, drop_at, take-append-drop}
 use Rattle.byte_fields.specs.declared.fault.Fault.{Fault}
 use Rattle.byte_fields.specs.Fields.{IsBytes, ◌>>=◌, fault, word, number_at}
-use Rattle.byte_fields.proofs.Fields.{IsBytes-take, IsBytes-drop, bind_ok, chosen, ok_is, IsWide, number_takes, number_again}
+use Rattle.byte_fields.proofs.Fields.{IsBytes-drop, bind_ok, chosen, ok_is, IsWide, number_takes, number_again}
 use Rattle.gd_variant.specs.declared.message.Why.{Why}
 use Rattle.gd_variant.specs.declared.message.Why.TheVariants.{Short}
 use Rattle.variant_codec.specs.Readers.{Reader, Relation, Breaking, raw_at, IsRaw, IsShort, IsWord, done_at, IsDone, NeverBreaks, mapped_by, Mapped, checked_by, Checked, CheckBreaks, then_by, Then, ThenBreaks, list_by, Each, EachOf, EachBreaks, whole_by}
@@ -89,11 +89,11 @@ raw_reader n = record {
       elim (chosen (ltb (length bytes) n) _ _ _ e) [
         | inl h ↦ absurd (no_err _ x h.1)
         | inr h ↦ subst (Took (IsRaw n) bytes) (ok_is _ x h.1) (record {
-            front = take n bytes;
-            right = (let long : n ≤ length bytes = ltb-false _ _ h.0 in omega (arith, length-take n bytes), refl);
-            parts = sym (take-append-drop n bytes);
-            rest_fits = IsBytes-drop n bytes fits;
-          })
+          front = take n bytes;
+          right = (let long : n ≤ length bytes = ltb-false _ _ h.0 in omega (arith, length-take n bytes), refl);
+          parts = sym (take-append-drop n bytes);
+          rest_fits = IsBytes-drop n bytes fits;
+        })
       ];
   again = λ s front rest r.
       let long : ltb (length (s ++ rest)) n ≡ false = le-ltb _ _ (let len = r.0 in omega (arith, length-append s rest)) in
@@ -163,17 +163,17 @@ checked_reader {X} test reason {read} {R} {B} r =
           elim (bind_err (read bytes) (next bytes) d e) [
             | inl h ↦ let b = r.breaks bytes d fits h in record { front = b.front; rest = b.rest; parts = b.parts; left = b.left; breaks = inl b.breaks }
             | inr h ↦
-              let t = r.takes bytes h.0 fits h.1 in
-              elim (chosen (test h.0.0) _ _ _ h.2) [
-                | inl k ↦ absurd (no_ok _ d k.1)
-                | inr k ↦ here (CheckBreaks test reason R B) bytes d reason (err_is _ d k.1) (inr (h.0.0, t.front, h.0.1, t.right, t.parts, k.0, refl, refl))
-              ]
+                let t = r.takes bytes h.0 fits h.1 in
+                elim (chosen (test h.0.0) _ _ _ h.2) [
+                  | inl k ↦ absurd (no_ok _ d k.1)
+                  | inr k ↦ here (CheckBreaks test reason R B) bytes d reason (err_is _ d k.1) (inr (h.0.0, t.front, h.0.1, t.right, t.parts, k.0, refl, refl))
+                ]
           ];
       broken = λ bytes rest why b.
           elim b [
             | inl h ↦ bind_fails (read bytes) (next bytes) _ (r.broken bytes rest why h)
             | inr h ↦ bind_goes (read bytes) (next bytes) (h.0, h.2) _ (ap read h.4 ∙ r.again h.0 h.1 h.2 h.3)
-              (rw h.5 (ap (λ (l : List ℕ). Err (fault (length l) reason)) (sym h.6) ∙ ap (λ y. Err (fault (length rest) y)) (sym h.7)))
+                (rw h.5 (ap (λ (l : List ℕ). Err (fault (length l) reason)) (sym h.6) ∙ ap (λ y. Err (fault (length rest) y)) (sym h.7)))
           ];
     }
 
@@ -199,15 +199,15 @@ then_reader {X} {Y} {read} {next} {R} {S} {B} {C} r each =
           elim (bind_err (read bytes) go d e) [
             | inl h ↦ let b = r.breaks bytes d fits h in record { front = b.front; rest = b.rest; parts = b.parts; left = b.left; breaks = inl b.breaks }
             | inr h ↦
-              let t = r.takes bytes h.0 fits h.1 in
-              let b = (each h.0.0).breaks h.0.1 d t.rest_fits h.2 in
-              record {
-                front = t.front ++ b.front;
-                rest = b.rest;
-                parts = t.parts ∙ ap (λ (l : List ℕ). t.front ++ l) b.parts ∙ sym (append_assoc t.front b.front b.rest);
-                left = b.left;
-                breaks = inr (h.0.0, t.front, h.0.1, t.right, t.parts, b.breaks);
-              }
+                let t = r.takes bytes h.0 fits h.1 in
+                let b = (each h.0.0).breaks h.0.1 d t.rest_fits h.2 in
+                record {
+                  front = t.front ++ b.front;
+                  rest = b.rest;
+                  parts = t.parts ∙ ap (λ (l : List ℕ). t.front ++ l) b.parts ∙ sym (append_assoc t.front b.front b.rest);
+                  left = b.left;
+                  breaks = inr (h.0.0, t.front, h.0.1, t.right, t.parts, b.breaks);
+                }
           ];
       broken = λ bytes rest why b.
           elim b [
@@ -268,7 +268,7 @@ list_again {read = read} each [] before front rest r = ap (λ (l : List ℕ). li
 list_again {X} {read} {R} {B} each (x ∷ xs) before front rest r =
     ap (λ (l : List ℕ). list_by read before (suc (length xs)) (l ++ rest)) r.4 ∙ ap (list_by read before (suc (length xs))) (append_assoc r.0 r.1 rest)
     ∙ bind_goes (read before (r.0 ++ (r.1 ++ rest))) (λ y. list_by read (before ++ y.0 ∷ []) (length xs) y.1) (x, r.1 ++ rest) _ ((each before).again x r.0 (r.1 ++ rest) r.2)
-      (list_again {B = B} each xs (before ++ x ∷ []) r.1 rest r.3 ∙ ap (λ ys. Ok (ys, rest)) (one_before before xs x))
+    (list_again {B = B} each xs (before ++ x ∷ []) r.1 rest r.3 ∙ ap (λ ys. Ok (ys, rest)) (one_before before xs x))
 
 list_breaks : {X : Type 0} {read : List X → Reader X} {R : List X → Relation X} {B : List X → Breaking} → ((before : List X) → IsReader (read before) (R before) (B before))
     → (n : ℕ) (before : List X) (bytes : List ℕ) (f : Fault) → IsBytes bytes → list_by read before n bytes ≡ Err f → BrokeFrom R B before n bytes f
@@ -276,23 +276,36 @@ list_breaks each zero before bytes f fits e = absurd (no_ok _ f e)
 list_breaks {X} {read} {R} {B} each (suc n) before bytes f fits e =
     elim (bind_err (read before bytes) (λ x. list_by read (before ++ x.0 ∷ []) n x.1) f e) [
       | inl h ↦
-        let b = (each before).breaks bytes f fits h in
-        record {
-          xs = []; front = []; more = bytes; inner = b.front; rest = b.rest; right = refl; fewer = omega arith; parts = refl; inner_parts = b.parts; left = b.left;
-          breaks = subst (λ ys. B ys bytes b.rest f.why) (sym (append-nil before)) b.breaks;
-        }
+          let b = (each before).breaks bytes f fits h in
+          record {
+            xs = [];
+            front = [];
+            more = bytes;
+            inner = b.front;
+            rest = b.rest;
+            right = refl;
+            fewer = omega arith;
+            parts = refl;
+            inner_parts = b.parts;
+            left = b.left;
+            breaks = subst (λ ys. B ys bytes b.rest f.why) (sym (append-nil before)) b.breaks;
+          }
       | inr h ↦
-        let t = (each before).takes bytes h.0 fits h.1 in
-        let u = list_breaks {B = B} each n (before ++ h.0.0 ∷ []) h.0.1 f t.rest_fits h.2 in
-        record {
-          xs = h.0.0 ∷ u.xs; front = t.front ++ u.front; more = u.more; inner = u.inner; rest = u.rest;
-          right = (t.front, u.front, t.right, u.right, refl);
-          fewer = (let lt = u.fewer in omega arith);
-          parts = t.parts ∙ ap (λ (l : List ℕ). t.front ++ l) u.parts ∙ sym (append_assoc t.front u.front u.more);
-          inner_parts = u.inner_parts;
-          left = u.left;
-          breaks = subst (λ ys. B ys u.more u.rest f.why) (one_before before u.xs h.0.0) u.breaks;
-        }
+          let t = (each before).takes bytes h.0 fits h.1 in
+          let u = list_breaks {B = B} each n (before ++ h.0.0 ∷ []) h.0.1 f t.rest_fits h.2 in
+          record {
+            xs = h.0.0 ∷ u.xs;
+            front = t.front ++ u.front;
+            more = u.more;
+            inner = u.inner;
+            rest = u.rest;
+            right = (t.front, u.front, t.right, u.right, refl);
+            fewer = (let lt = u.fewer in omega arith);
+            parts = t.parts ∙ ap (λ (l : List ℕ). t.front ++ l) u.parts ∙ sym (append_assoc t.front u.front u.more);
+            inner_parts = u.inner_parts;
+            left = u.left;
+            breaks = subst (λ ys. B ys u.more u.rest f.why) (one_before before u.xs h.0.0) u.breaks;
+          }
     ]
 
 list_broken : {X : Type 0} {read : List X → Reader X} {R : List X → Relation X} {B : List X → Breaking} → ((before : List X) → IsReader (read before) (R before) (B before))
@@ -305,7 +318,7 @@ list_broken {X} {read} {R} {B} each [] (suc n) before front more rest why r lt b
 list_broken {X} {read} {R} {B} each (x ∷ xs) (suc n) before front more rest why r lt b =
     ap (λ (l : List ℕ). list_by read before (suc n) (l ++ more)) r.4 ∙ ap (list_by read before (suc n)) (append_assoc r.0 r.1 more)
     ∙ bind_goes (read before (r.0 ++ (r.1 ++ more))) (λ y. list_by read (before ++ y.0 ∷ []) n y.1) (x, r.1 ++ more) _ ((each before).again x r.0 (r.1 ++ more) r.2)
-      (list_broken {B = B} each xs n (before ++ x ∷ []) r.1 more rest why r.3 (omega (arith, lt)) (subst (λ ys. B ys more rest why) (sym (one_before before xs x)) b))
+    (list_broken {B = B} each xs n (before ++ x ∷ []) r.1 more rest why r.3 (omega (arith, lt)) (subst (λ ys. B ys more rest why) (sym (one_before before xs x)) b))
 
 pub list_reader : {X : Type 0} {read : List X → Reader X} {R : List X → Relation X} {B : List X → Breaking} → ((before : List X) → IsReader (read before) (R before) (B before))
     → (n : ℕ) → IsReader (list_by read [] n) (EachOf R n) (EachBreaks R B n)

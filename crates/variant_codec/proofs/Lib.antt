@@ -10,3 +10,6 @@ pub mod Bodies
 pub mod Trees
 pub mod Whole
 pub mod Small
+pub mod Spelled
+pub mod Forms
+pub mod Top

@@ -3,7 +3,7 @@ use Rattle.std.proofs.Common.{◌≡◌, ℕ, suc, ◌-◌, ◌+◌, ◌≤◌, 
 use Rattle.std.proofs.lemmas.List.{map_push}
 use Rattle.byte_fields.specs.declared.fault.ReadError.{ReadError}
 use Rattle.byte_fields.specs.declared.fault.ReadError.TheVariants as errors
-use Rattle.byte_fields.specs.Fields.{◌>>=◌, Fails}
+use Rattle.byte_fields.specs.Fields.{Fails}
 use Rattle.variant_codec.specs.Readers.{Reader, list_by}
 
 -- one part more

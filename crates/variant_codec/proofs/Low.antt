@@ -1,5 +1,5 @@
 -- The low 32 bits of a number are its word.
-use Rattle.std.proofs.Common.{◌≡◌, ℕ, ◌%◌, ◌+◌, ◌/◌, List, ◌++◌, ap, refl, arith}
+use Rattle.std.proofs.Common.{◌≡◌, ℕ, ◌%◌, ◌/◌, refl, arith}
 use Rattle.std.specs.Int.{w32}
 use Rattle.byte_fields.specs.Fields.{word}
 

@@ -1,26 +1,26 @@
 -- The compressed forms, by their first byte.
-use Rattle.std.proofs.Common.{◌≡◌, ℕ, zero, suc, ◌+◌, ◌*◌, ◌%◌, ◌^◌, ◌<◌, ◌≤◌, Bool, true, false, cond, List, [], ◌∷◌, ◌++◌, length, drop, get_or, Result, Ok, Err, refl, sym, ap, subst, ◌∙◌, append_assoc, arith, inl, inr, ◌⊎◌}
+use Rattle.std.proofs.Common.{◌≡◌, ℕ, suc, ◌+◌, ◌*◌, ◌%◌, ◌<◌, Bool, true, false, List, [], ◌∷◌, ◌++◌, length, get_or, Ok, Err, refl, sym, ap, subst, ◌∙◌, arith, inl, inr, ◌⊎◌}
 use Rattle.std.specs.Prelude.{ℤ, not, ◌||◌, nat_eq, nat_lt}
 use Rattle.std.specs.Int.{Width, w8, w16, w32, w64, byte_len}
 use Rattle.std.proofs.lemmas.Bool.{ltb-true, eqb-true, eqb-false, ne_eqb}
 use Rattle.byte_fields.specs.declared.fault.Fault.{Fault}
-use Rattle.byte_fields.specs.Fields.{IsBytes, word, number_at, fault}
-use Rattle.byte_fields.specs.Complement.{IsWithin, bits_of, signed_of, half8, half16, half32, half64}
+use Rattle.byte_fields.specs.Fields.{IsBytes, word, fault}
+use Rattle.byte_fields.specs.Complement.{bits_of, signed_of, half8, half16, half32, half64}
 use Rattle.byte_fields.proofs.Fields.{ok_is, IsWide, wide8, wide16, wide32, wide64}
 use Rattle.gd_variant.specs.declared.message.Why.{Why}
 use Rattle.gd_variant.specs.Tree.{Tree, nil, boolean, int, text, name, path, ints, opaque, dict, array, packed_bytes, packed_ints, packed_texts}
-use Rattle.gd_variant.specs.Sound.{nesting, element_size, opaque_right}
+use Rattle.gd_variant.specs.Sound.{nesting}
 use Rattle.variant_codec.specs.declared.form.Form.TheVariants as form
-use Rattle.variant_codec.specs.Header.{flag, header, form_of}
+use Rattle.variant_codec.specs.Header.{flag, form_of}
 use Rattle.variant_codec.specs.Parts.{Headed}
-use Rattle.variant_codec.specs.Grammar.{Spells, SpellsOpaque, SpellsSmallInt, SpellsSmall}
-use Rattle.variant_codec.specs.Readers.{Relation, Breaking, Mapped, IsShort}
+use Rattle.variant_codec.specs.Grammar.{Spells, SpellsSmallInt, SpellsSmall}
+use Rattle.variant_codec.specs.Readers.{Relation, Mapped, IsShort}
 use Rattle.variant_codec.specs.Reading.{value_at, most_levels, small_int_at, small_by, small_at}
-use Rattle.variant_codec.specs.Breaks.{SpellsWithin, Breaks, SmallIntBreaks, is_binary, BreaksSmall}
-use Rattle.variant_codec.proofs.Codes.{GoodHead, ints_head}
+use Rattle.variant_codec.specs.Breaks.{is_binary, BreaksSmall}
+use Rattle.variant_codec.proofs.Codes.{ints_head}
 use Rattle.variant_codec.proofs.Fields.{Signed, signed_to, signed_from}
 use Rattle.variant_codec.proofs.Whole.{value_reader, opaque_head}
-use Rattle.variant_codec.proofs.Laws.{IsReader, Took, Broke, no_err, no_ok, word_reader, mapped_reader, seen}
+use Rattle.variant_codec.proofs.Laws.{IsReader, Took, Broke, no_ok, word_reader, mapped_reader, seen}
 
 -- the four sizes of a compressed number
 data Size : Type 0 where
@@ -231,7 +231,7 @@ behind_fits c more fits i = fits (suc i)
 bool_took : (bytes more : List ℕ) (c : ℕ) (x : Bool) (y : Tree × List ℕ) → IsBytes bytes → bytes ≡ c ∷ more → SpellsSmall (boolean x) (c ∷ []) → small_at (c ∷ more) ≡ Ok (boolean x, more) → small_at bytes ≡ Ok y → Took SmallWithin bytes y
 bool_took bytes more c x y fits e s reads h =
     subst (Took SmallWithin bytes) (ok_is _ y (sym (ap small_at e ∙ reads) ∙ h))
-      (record { front = c ∷ []; right = (omega arith, s); parts = e; rest_fits = behind_fits c more (subst IsBytes e fits) })
+    (record { front = c ∷ []; right = (omega arith, s); parts = e; rest_fits = behind_fits c more (subst IsBytes e fits) })
 
 int_took : (s : Size) (bytes more : List ℕ) (y : Tree × List ℕ) → IsBytes bytes → bytes ≡ tag s ∷ more → small_at bytes ≡ Ok y → Took SmallWithin bytes y
 int_took s bytes more y fits e h =

@@ -1,15 +1,15 @@
 -- Lists of trees and of pairs, and the trees that hold them.
-use Rattle.std.proofs.Common.{◌≡◌, ℕ, zero, suc, ◌+◌, ◌*◌, ◌<◌, ◌≤◌, max, Bool, true, false, List, [], ◌∷◌, ◌++◌, length, refl, sym, ap, ap₂, subst, ◌∙◌, append_assoc, arith}
+use Rattle.std.proofs.Common.{◌≡◌, ℕ, suc, ◌*◌, ◌<◌, Bool, true, false, List, [], ◌∷◌, ◌++◌, length, refl, sym, ap, ◌∙◌, append_assoc, arith}
 use Rattle.std.specs.Prelude.{not, ◌&&◌, ◌||◌}
 use Rattle.std.specs.List.{list_all, list_any}
 use Rattle.std.proofs.lemmas.Bool.{and_parts, and_from}
 use Rattle.std.proofs.lemmas.List.Folds.{list_all-append}
 use Rattle.gd_variant.specs.Tree.{Tree, Trees, none, item, trees_of, PairTree, pairs_of, tree_eq}
-use Rattle.gd_variant.specs.Sound.{nesting, deepest, is_new_key, keys_distinct}
+use Rattle.gd_variant.specs.Sound.{deepest, is_new_key, keys_distinct}
 use Rattle.gd_variant.proofs.Equal.{tree_told, tree_again}
-use Rattle.variant_codec.specs.Parts.{SpellsEach, count}
-use Rattle.variant_codec.specs.Grammar.{Spells, SpellsAll}
-use Rattle.variant_codec.specs.Readers.{Relation, Each}
+use Rattle.variant_codec.specs.Parts.{count}
+use Rattle.variant_codec.specs.Grammar.{SpellsAll}
+use Rattle.variant_codec.specs.Readers.{Each}
 use Rattle.variant_codec.specs.Reading.{is_new_to}
 use Rattle.variant_codec.specs.Breaks.{SpellsWithin, Pair}
 
@@ -127,6 +127,10 @@ pairs_from n before (item k (item v ts)) b d a lt (key, others, sk, (value, more
     let f = apart_less before k v ts a in
     let g = and_parts (is_new_key k ts) (keys_distinct ts) d in
     let p : PairTree = record { key = k; value = v } in
-    let next : Apart (before ++ p ∷ []) ts = list_all-append (λ (q : PairTree). is_new_key q.key ts) before (p ∷ []) ∙ and_from _ _ f.1 (and_from (is_new_key k ts) true g.0 refl) in
-    (key ++ value, more, (key, value, f.0, (omega (arith, lt), sk), (omega (arith, lt), sv), refl), pairs_from n (before ++ p ∷ []) ts more g.1 next (omega (arith, lt)) all,
-      outer ∙ ap (λ (o : List ℕ). key ++ o) inner ∙ sym (append_assoc key value more))
+    let next : Apart (before ++ p ∷ []) ts = list_all-append (λ (q : PairTree). is_new_key q.key ts) before (p ∷ []) ∙ and_from _ _ f.1 (and_from (is_new_key k ts) true g.0 refl) in (
+      key ++ value,
+      more,
+      (key, value, f.0, (omega (arith, lt), sk), (omega (arith, lt), sv), refl),
+      pairs_from n (before ++ p ∷ []) ts more g.1 next (omega (arith, lt)) all,
+      outer ∙ ap (λ (o : List ℕ). key ++ o) inner ∙ sym (append_assoc key value more),
+    )

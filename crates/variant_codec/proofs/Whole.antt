@@ -1,10 +1,10 @@
 -- A header and what stands behind it are a form, and a form is a header and what stands behind it.
-use Rattle.std.proofs.Common.{◌≡◌, ℕ, zero, suc, ◌+◌, ◌-◌, ◌*◌, ◌/◌, ◌%◌, ◌^◌, ◌<◌, ◌≤◌, Bool, true, false, cond, List, [], ◌∷◌, ◌++◌, length, refl, sym, ap, subst, ◌∙◌, append_assoc, arith, inl, inr, ◌⊎◌}
+use Rattle.std.proofs.Common.{◌≡◌, ℕ, zero, suc, ◌+◌, ◌-◌, ◌*◌, ◌/◌, ◌%◌, ◌^◌, ◌<◌, ◌≤◌, Bool, true, false, List, [], ◌++◌, length, refl, sym, ap, subst, ◌∙◌, arith, inl, inr, ◌⊎◌}
 use Rattle.std.specs.Prelude.{ℤ, not, ◌&&◌, ◌||◌, nat_eq, nat_le, nat_lt, Err}
 use Rattle.std.specs.Int.{w32}
-use Rattle.std.proofs.lemmas.Bool.{and_parts, and_from, eqb-true, eqb-false, eq-eqb, leb-true, le-leb, leb-false, lt-ltb, ltb-true, cases_lt, cases_Bool}
+use Rattle.std.proofs.lemmas.Bool.{and_parts, and_from, eqb-true, eqb-false, eq-eqb, leb-true, le-leb, lt-ltb, ltb-true, cases_lt, cases_Bool}
 use Rattle.std.proofs.Math.Nat.{mul-div_cancel, mul-mod_left, mod-add-div'}
-use Rattle.byte_fields.specs.Fields.{word, number_at, fault}
+use Rattle.byte_fields.specs.Fields.{word, fault}
 use Rattle.gd_variant.specs.declared.message.Why.TheVariants.{Depth}
 use Rattle.gd_variant.specs.Tree.{Tree, Trees, nil, boolean, int, text, name, path, ints, opaque, dict, array, packed_bytes, packed_ints, packed_texts, trees_of, pairs_of}
 use Rattle.gd_variant.specs.Sound.{nesting, deepest, ints_count, components, at_or, component_size, element_size, may_be_wide, is_multiple, fixed_size_right, opaque_right, keys_distinct}
@@ -13,12 +13,12 @@ use Rattle.variant_codec.specs.declared.form.Form.TheVariants as form
 use Rattle.variant_codec.specs.Header.{flag, header, code_in, is_wide, is_kind, is_carried, may_be_flagged, has_right_flags, holds_values, has_room, form_of}
 use Rattle.variant_codec.specs.Parts.{Padded, SpellsText, SpellsElement, SpellsShort, SpellsLong, SpellsEach, Headed, Numbered, Counted, shared, truth, SpellsBool, SpellsPath, path_flags, count}
 use Rattle.variant_codec.specs.Grammar.{SpellsInts, SpellsOpaque, Spells, SpellsAll}
-use Rattle.variant_codec.specs.Readers.{Relation, Breaking, IsRaw, Mapped, Checked, Then, Each, EachOf}
-use Rattle.variant_codec.specs.Reading.{has_names_bit, is_path_flags, without_bit, value_at}
-use Rattle.variant_codec.specs.Breaks.{Word, Header, Pair, SpellsWithin, Breaks}
+use Rattle.variant_codec.specs.Readers.{Relation, Mapped, Then, EachOf}
+use Rattle.variant_codec.specs.Reading.{is_path_flags, without_bit, value_at}
+use Rattle.variant_codec.specs.Breaks.{Word, Header, SpellsWithin, Breaks}
 use Rattle.variant_codec.proofs.Codes.{told_test, told, head_is, flagless, flagged, code_back, wide_back, head_fits, GoodHead, ints_head, fixed_head, elements_head, or_true}
 use Rattle.variant_codec.proofs.Fields.{each_to, each_from, header_reader}
-use Rattle.variant_codec.proofs.Bodies.{SignedOf, PathNames, PathBody, ArrayBody, DictBody, Body, body_reader}
+use Rattle.variant_codec.proofs.Bodies.{SignedOf, PathBody, ArrayBody, DictBody, Body, body_reader}
 use Rattle.variant_codec.proofs.Trees.{count_trees, list_of, list_back, list_count, all_to, deep_to, all_from, pairs_list, pairs_back, count_pairs, pairs_all, pairs_deep, pairs_distinct, pairs_from}
 use Rattle.variant_codec.proofs.Laws.{IsReader, no_err, err_is, here, then_reader, seen}
 
@@ -103,15 +103,35 @@ path_from : (a : Bool) (names subnames : List (List ℕ)) (body : List ℕ) → 
 path_from a names subnames body s =
     let n = 2147483648 + length names in
     let names_len : length names ≡ n - 2147483648 = omega arith in
-    let n_fits : n < 2 ^ 32 = omega (arith, s.names_fit) in
-    (n, word w32 n, _, (le-leb 2147483648 n (omega arith), (n_fits, refl)),
-      (length subnames, word w32 (length subnames), _, (s.subnames_fit, refl),
-        (path_flags a, word w32 (path_flags a), s.names_bytes ++ s.subnames_bytes, (flag_small a, (flag_fits a, refl)),
-          (names, s.names_bytes, s.subnames_bytes, (names_len, each_from SpellsText [] names s.names_bytes s.names_right),
-            (subnames, ap (λ b. path b names subnames) (sym (flag_seen a)), (refl, each_from SpellsText [] subnames s.subnames_bytes s.subnames_right)), refl),
-          refl),
-        refl),
-      s.form)
+    let n_fits : n < 2 ^ 32 = omega (arith, s.names_fit) in (
+      n,
+      word w32 n,
+      _,
+      (le-leb 2147483648 n (omega arith), (n_fits, refl)),
+      (
+        length subnames,
+        word w32 (length subnames),
+        _,
+        (s.subnames_fit, refl),
+        (
+          path_flags a,
+          word w32 (path_flags a),
+          s.names_bytes ++ s.subnames_bytes,
+          (flag_small a, (flag_fits a, refl)),
+          (
+            names,
+            s.names_bytes,
+            s.subnames_bytes,
+            (names_len, each_from SpellsText [] names s.names_bytes s.names_right),
+            (subnames, ap (λ b. path b names subnames) (sym (flag_seen a)), (refl, each_from SpellsText [] subnames s.subnames_bytes s.subnames_right)),
+            refl,
+          ),
+          refl,
+        ),
+        refl,
+      ),
+      s.form,
+    )
 
 -- ---- floats as bytes
 
@@ -125,9 +145,11 @@ packed_right c wide len n big some w lt e =
     let size = element_size c wide in
     let pos : 0 < size = (let h = eqb-false size 0 some in omega (arith, h)) in
     let back : len / size ≡ n = ap (λ k. k / size) e ∙ mul-div_cancel n pos in
-    let rest : len % size ≡ 0 = ap (λ k. k % size) e ∙ mul-mod_left n size in
-    (and_from (may_be_wide c || not wide) _ w
-      (rw big (and_from _ _ (and_from (not (nat_eq size 0)) _ (ap not some) (eq-eqb _ 0 rest)) (lt-ltb (len / size) (2 ^ 32) (subst (λ k. k < 2 ^ 32) (sym back) lt)))), back)
+    let rest : len % size ≡ 0 = ap (λ k. k % size) e ∙ mul-mod_left n size in (
+      and_from (may_be_wide c || not wide) _ w
+          (rw big (and_from _ _ (and_from (not (nat_eq size 0)) _ (ap not some) (eq-eqb _ 0 rest)) (lt-ltb (len / size) (2 ^ 32) (subst (λ k. k < 2 ^ 32) (sym back) lt)))),
+      back,
+    )
 
 record FixedParts (c : ℕ) (wide : Bool) (len : ℕ) : Type 0 where
   some : nat_eq (at_or c components) 0 ≡ false
@@ -182,18 +204,24 @@ counted_to k n R b front rest e lt f r parts =
 array_to : (n head : ℕ) (more : List ℕ) (t : Tree) → 0 < n → head ≡ 28 + flag false → ArrayBody (V n) t more → SpellsWithin (suc n) t (word w32 head ++ more)
 array_to n head more t room e (m, front, rest, (m_fits, m_is), (ts, is, (len, each)), parts) =
     let counted : count (trees_of ts) ≡ without_bit m = count_trees ts ∙ len in
-    subst (λ x. SpellsWithin (suc n) x (word w32 head ++ more)) (sym is)
-      (omega (arith, deep_to n [] ts rest room each),
-        headed 28 false (Counted (count (trees_of ts)) (λ body. SpellsAll (trees_of ts) body)) head more e
-          (counted_to (count (trees_of ts)) m (λ body. SpellsAll (trees_of ts) body) more front rest counted m_fits m_is (all_to n [] ts rest each) parts))
+    subst (λ x. SpellsWithin (suc n) x (word w32 head ++ more)) (sym is) (
+      omega (arith, deep_to n [] ts rest room each),
+      headed 28 false (Counted (count (trees_of ts)) (λ body. SpellsAll (trees_of ts) body)) head more e
+          (counted_to (count (trees_of ts)) m (λ body. SpellsAll (trees_of ts) body) more front rest counted m_fits m_is (all_to n [] ts rest each) parts),
+    )
 
 dict_to : (n head : ℕ) (more : List ℕ) (t : Tree) → 0 < n → head ≡ 27 + flag false → DictBody (V n) t more → SpellsWithin (suc n) t (word w32 head ++ more)
 dict_to n head more t room e (m, front, rest, (m_fits, m_is), (ps, is, (len, each)), parts) =
-    subst (λ x. SpellsWithin (suc n) x (word w32 head ++ more)) (sym is)
-      (omega (arith, pairs_deep n [] ps rest room each),
-        ((pairs_distinct n [] ps rest each).0, length ps, count_pairs ps,
-          headed 27 false (Counted (length ps) (λ body. SpellsAll (pairs_of ps) body)) head more e
-            (counted_to (length ps) m (λ body. SpellsAll (pairs_of ps) body) more front rest len m_fits m_is (pairs_all n [] ps rest each) parts)))
+    subst (λ x. SpellsWithin (suc n) x (word w32 head ++ more)) (sym is) (
+      omega (arith, pairs_deep n [] ps rest room each),
+      (
+        (pairs_distinct n [] ps rest each).0,
+        length ps,
+        count_pairs ps,
+        headed 27 false (Counted (length ps) (λ body. SpellsAll (pairs_of ps) body)) head more e
+            (counted_to (length ps) m (λ body. SpellsAll (pairs_of ps) body) more front rest len m_fits m_is (pairs_all n [] ps rest each) parts),
+      ),
+    )
 
 numbered_to : {X : Type 0} (R : Relation X) (n : ℕ) (xs : List X) (b front rest : List ℕ) → n < 2 ^ 32 → front ≡ word w32 n → EachOf (λ _. R) n xs rest → b ≡ front ++ rest → Numbered (length xs) (SpellsEach R xs) b
 numbered_to R n xs b front rest lt f e parts =
@@ -235,7 +263,7 @@ form_to n form.Ints head t more is flags room (zs, e, (len, each)) =
     let a = and_parts (not (nat_eq (ints_count c) 0)) (not (may_be_flagged c)) is in
     let w : is_wide head ≡ false = flagless head flags (not_true _ a.1) in
     flat_to n head more (ints c zs) t e refl
-      (headed c false (SpellsInts c zs) head more (head_is head flags ∙ ap (λ b. c + flag b) w) (not_true _ a.0, len, each_to SpellsShort [] zs more each))
+    (headed c false (SpellsInts c zs) head more (head_is head flags ∙ ap (λ b. c + flag b) w) (not_true _ a.0, len, each_to SpellsShort [] zs more each))
 form_to n form.Fixed head t more is flags room (s, e, (len, b)) =
     let c = code_in head in
     let wide = is_wide head in
@@ -243,7 +271,7 @@ form_to n form.Fixed head t more is flags room (s, e, (len, b)) =
     let d = and_parts (not (nat_eq (at_or c components) 0)) _ a.1 in
     let small : nat_le 32 c ≡ false = not_true _ a.0 in
     flat_to n head more (opaque c wide s) t e refl
-      (headed c wide (SpellsOpaque c wide s) head more (head_is head flags) (fixed_right c wide (length s) small (not_true _ d.0) (flagged head flags d.1) len, rw small b))
+    (headed c wide (SpellsOpaque c wide s) head more (head_is head flags) (fixed_right c wide (length s) small (not_true _ d.0) (flagged head flags d.1) len, rw small b))
 form_to n form.Dict head t more is flags room b = dict_to n head more t (room_left n 27 head (eqb-true (code_in head) 27 is) refl room) (at_code head 27 flags is refl) b
 form_to n form.Array head t more is flags room b = array_to n head more t (room_left n 28 head (eqb-true (code_in head) 28 is) refl room) (at_code head 28 flags is refl) b
 form_to n form.Bytes head t more is flags room (s, e, r) = flat_to n head more (packed_bytes s) t e refl (headed 29 false (Padded s) head more (at_code head 29 flags is refl) r)
@@ -279,9 +307,14 @@ from_head : (n : ℕ) (f : Form) (c : ℕ) (wide : Bool) (P : List ℕ → Type 
     → has_room (nat_lt 0 n) (c + flag wide) ≡ true → (h : Headed c wide P b) → Body (V n) f c wide t h.body → Raw n t b
 from_head n f c wide P t b small named kind carried flags room h body =
     let lt : c < 65536 = omega (arith, small) in
-    let code = code_back c wide lt in
-    (c + flag wide, header c wide, h.body, (room, (flags, (carried, (kind, (head_fits c wide lt, refl))))),
-      moved (V n) f (form_of (code_in (c + flag wide))) c (code_in (c + flag wide)) wide (is_wide (c + flag wide)) t h.body (sym (ap form_of code ∙ named)) (sym code) (sym (wide_back c wide lt)) body, h.form)
+    let code = code_back c wide lt in (
+      c + flag wide,
+      header c wide,
+      h.body,
+      (room, (flags, (carried, (kind, (head_fits c wide lt, refl))))),
+      moved (V n) f (form_of (code_in (c + flag wide))) c (code_in (c + flag wide)) wide (is_wide (c + flag wide)) t h.body (sym (ap form_of code ∙ named)) (sym code) (sym (wide_back c wide lt)) body,
+      h.form,
+    )
 
 from_good : (n : ℕ) (f : Form) (c : ℕ) (wide : Bool) (P : List ℕ → Type 0) (t : Tree) (b : List ℕ) → GoodHead f c wide → (h : Headed c wide P b) → Body (V n) f c wide t h.body → Raw n t b
 from_good n f c wide P t b g h body =
@@ -296,17 +329,27 @@ numbered_from R xs see b s = (length xs, word w32 (length xs), s.body, (s.short,
 
 array_from : (n : ℕ) (ts : Trees) (b : List ℕ) → deepest ts < n → Counted (count ts) (λ body. SpellsAll ts body) b → ArrayBody (V n) (array ts) b
 array_from n ts b lt s =
-    let c = bit_back (count ts) s.bit s.short in
-    (count ts + shared s.bit, word w32 (count ts + shared s.bit), s.body, (c.0, refl),
-      (list_of ts, ap array (sym (list_back ts)), (list_count ts ∙ sym c.1, all_from n [] ts s.body lt s.right)), s.form)
+    let c = bit_back (count ts) s.bit s.short in (
+      count ts + shared s.bit,
+      word w32 (count ts + shared s.bit),
+      s.body,
+      (c.0, refl),
+      (list_of ts, ap array (sym (list_back ts)), (list_count ts ∙ sym c.1, all_from n [] ts s.body lt s.right)),
+      s.form,
+    )
 
 dict_from : (n k : ℕ) (ts : Trees) (b : List ℕ) → deepest ts < n → keys_distinct ts ≡ true → count ts ≡ 2 * k → Counted k (λ body. SpellsAll ts body) b → DictBody (V n) (dict ts) b
 dict_from n k ts b lt distinct counted s =
     let c = bit_back k s.bit s.short in
     let back = pairs_back ts distinct in
-    let len : length (pairs_list ts) ≡ k = omega (arith, count_pairs (pairs_list ts), ap count back, counted) in
-    (k + shared s.bit, word w32 (k + shared s.bit), s.body, (c.0, refl),
-      (pairs_list ts, ap dict (sym back), (len ∙ sym c.1, pairs_from n [] ts s.body distinct refl lt s.right)), s.form)
+    let len : length (pairs_list ts) ≡ k = omega (arith, count_pairs (pairs_list ts), ap count back, counted) in (
+      k + shared s.bit,
+      word w32 (k + shared s.bit),
+      s.body,
+      (c.0, refl),
+      (pairs_list ts, ap dict (sym back), (len ∙ sym c.1, pairs_from n [] ts s.body distinct refl lt s.right)),
+      s.form,
+    )
 
 opaque_from : (n c : ℕ) (wide : Bool) (s b : List ℕ) (big : Bool) → nat_le 32 c ≡ big → Headed c wide (SpellsOpaque c wide s) b → Raw n (opaque c wide s) b
 opaque_from n c wide s b false e h =
@@ -337,10 +380,10 @@ value_from n (ints c zs) b (lt, h) =
 value_from n (opaque c wide s) b (lt, h) = opaque_from n c wide s b (nat_le 32 c) refl h
 value_from n (dict ts) b (lt, (distinct, k, counted, h)) =
     from_head n form.Dict 27 false (Counted k (λ body. SpellsAll ts body)) (dict ts) b (ltb-true 27 39 refl) refl refl refl refl (ap (λ x. x || not (holds_values 27)) (room_for n (deepest ts) lt)) h
-      (dict_from n k ts h.body (omega (arith, lt)) distinct counted h.right)
+    (dict_from n k ts h.body (omega (arith, lt)) distinct counted h.right)
 value_from n (array ts) b (lt, h) =
     from_head n form.Array 28 false (Counted (count ts) (λ body. SpellsAll ts body)) (array ts) b (ltb-true 28 39 refl) refl refl refl refl (ap (λ x. x || not (holds_values 28)) (room_for n (deepest ts) lt)) h
-      (array_from n ts h.body (omega (arith, lt)) h.right)
+    (array_from n ts h.body (omega (arith, lt)) h.right)
 value_from n (packed_bytes s) b (lt, h) = from_good n form.Bytes 29 false (Padded s) (packed_bytes s) b (flat_head 29 false form.Bytes refl refl refl refl refl refl) h (s, refl, h.right)
 value_from n (packed_ints false zs) b (lt, h) =
     from_good n form.Shorts 30 false (Numbered (length zs) (SpellsEach SpellsShort zs)) (packed_ints false zs) b (flat_head 30 false form.Shorts refl refl refl refl refl refl) h (numbered_from SpellsShort zs (λ ys. packed_ints false ys) h.body h.right)

@@ -3,11 +3,10 @@
 -- reason is the first row of the table of reasons that holds of it.
 --
 -- Each relation is between the bytes, their end from the wrong field on, and the reason.
-use Rattle.std.specs.Prelude.{◌≡◌, ℕ, zero, suc, ◌+◌, ◌-◌, ◌*◌, ◌<◌, ◌^◌, Bool, true, false, List, [], ◌∷◌, ◌++◌, length, take, slice_index_or, not, nat_eq, nat_lt, ◌⊎◌, if◌then◌else◌}
+use Rattle.std.specs.Prelude.{◌≡◌, ℕ, zero, suc, ◌+◌, ◌-◌, ◌*◌, ◌<◌, ◌^◌, Bool, true, List, [], ◌∷◌, ◌++◌, length, take, slice_index_or, not, nat_lt, ◌⊎◌, if◌then◌else◌}
 use Rattle.std.specs.Int.{w32}
-use Rattle.gd_variant.specs.declared.message.Why.{Why}
 use Rattle.gd_variant.specs.declared.message.Bad.{Bad}
-use Rattle.gd_variant.specs.declared.message.Why.TheVariants.{Short, HeaderBits, Kind, NotCarried, Utf8, Depth, OldPath, PathFlags, RepeatedKey}
+use Rattle.gd_variant.specs.declared.message.Why.TheVariants.{HeaderBits, Kind, NotCarried, Utf8, Depth, OldPath, PathFlags, RepeatedKey}
 use Rattle.gd_variant.specs.Words.{has_nat}
 use Rattle.gd_variant.specs.Tree.{Tree, PairTree}
 use Rattle.gd_variant.specs.Sound.{is_text, nesting, ints_count, components, at_or, component_size, element_size}

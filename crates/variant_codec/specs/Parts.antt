@@ -3,7 +3,7 @@ use Rattle.std.specs.Prelude.{◌≡◌, ℕ, suc, ◌+◌, ◌-◌, ◌%◌, �
 use Rattle.std.specs.Int.{w32, w64}
 use Rattle.byte_fields.specs.Fields.{word}
 use Rattle.byte_fields.specs.Complement.{IsWithin, bits_of, half32, half64}
-use Rattle.gd_variant.specs.Tree.{Tree, Trees, none, item}
+use Rattle.gd_variant.specs.Tree.{Trees, none, item}
 use Rattle.gd_variant.specs.Sound.{is_text}
 use Rattle.variant_codec.specs.Header.{header}
 

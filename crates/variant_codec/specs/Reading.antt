@@ -1,11 +1,11 @@
 -- Reading a value from left to right, with the first fault that is met.
-use Rattle.std.specs.Prelude.{◌≡◌, ℕ, zero, suc, ◌+◌, ◌-◌, ◌*◌, ◌%◌, ℤ, Bool, true, false, not, ◌||◌, List, [], ◌∷◌, length, take, drop, slice_index_or, Result, Ok, Err, nat_eq, nat_lt, nat_le, if◌then◌else◌}
+use Rattle.std.specs.Prelude.{ℕ, zero, suc, ◌+◌, ◌-◌, ◌*◌, ◌%◌, ℤ, Bool, true, false, not, List, [], length, take, drop, slice_index_or, Ok, Err, nat_eq, nat_lt, nat_le, if◌then◌else◌}
 use Rattle.std.specs.List.{list_any}
 use Rattle.std.specs.Int.{Width, w8, w16, w32, w64}
-use Rattle.byte_fields.specs.Fields.{◌>>=◌, fault, number_at}
+use Rattle.byte_fields.specs.Fields.{fault, number_at}
 use Rattle.byte_fields.specs.Complement.{signed_of, half8, half16, half32, half64}
-use Rattle.gd_variant.specs.declared.message.Why.TheVariants.{Short, HeaderBits, Kind, NotCarried, Utf8, Depth, OldPath, PathFlags, RepeatedKey}
-use Rattle.gd_variant.specs.Tree.{Tree, Trees, nil, boolean, int, text, name, path, ints, opaque, dict, array, packed_bytes, packed_ints, packed_texts, trees_of, PairTree, pairs_of, tree_eq}
+use Rattle.gd_variant.specs.declared.message.Why.TheVariants.{HeaderBits, Kind, NotCarried, Utf8, Depth, OldPath, PathFlags, RepeatedKey}
+use Rattle.gd_variant.specs.Tree.{Tree, nil, boolean, int, text, name, path, ints, opaque, dict, array, packed_bytes, packed_ints, packed_texts, trees_of, PairTree, pairs_of, tree_eq}
 use Rattle.gd_variant.specs.Sound.{is_text, ints_count, components, at_or, component_size, element_size}
 use Rattle.variant_codec.specs.declared.form.Form.{Form}
 use Rattle.variant_codec.specs.declared.form.Form.TheVariants as form

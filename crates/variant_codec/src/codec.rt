@@ -95,23 +95,19 @@ pub fn encode_small(alloc: Global, value: &Variant) -> Result<Bytes, OutOfMemory
 /// No binary form begins another.
 pub fn no_form_begins_another()
     ensures { NoneBeginsAnother Spells }
-{
-}
+{}
 
 /// No compressed form begins another.
 pub fn no_small_form_begins_another()
     ensures { NoneBeginsAnother SpellsSmall }
-{
-}
+{}
 
 /// What is written is a form, of the length that is told.
 pub fn written_form()
     ensures { WritesForms Spells written tree_size }
-{
-}
+{}
 
 /// What is written compressed is a compressed form, of the length that is told.
 pub fn written_small_form()
     ensures { WritesForms SpellsSmall written_small small_tree_size }
-{
-}
+{}

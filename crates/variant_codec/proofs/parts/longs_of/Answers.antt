@@ -1,8 +1,8 @@
 use Rattle.std.proofs.Common.{[]}
-use Rattle.std.specs.Int.{w32, w64}
+use Rattle.std.specs.Int.{w64}
 use Rattle.variant_codec.specs.Reading.{long_at}
 use Rattle.variant_codec.proofs.Loop.{goes_on}
-use Rattle.variant_codec.proofs.Pushed.{pushed, pushed_wide}
+use Rattle.variant_codec.proofs.Pushed.{pushed}
 use Rattle.variant_codec.proofs.parts.longs_of.Goals as goal
 
 pub loop-preserved : goal.loop-preserved

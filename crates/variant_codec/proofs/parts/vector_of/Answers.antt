@@ -1,8 +1,8 @@
 use Rattle.std.proofs.Common.{[]}
-use Rattle.std.specs.Int.{w32, w64}
+use Rattle.std.specs.Int.{w32}
 use Rattle.variant_codec.specs.Reading.{short_at}
 use Rattle.variant_codec.proofs.Loop.{goes_on}
-use Rattle.variant_codec.proofs.Pushed.{pushed, pushed_wide}
+use Rattle.variant_codec.proofs.Pushed.{pushed}
 use Rattle.variant_codec.proofs.parts.vector_of.Goals as goal
 
 pub loop-preserved : goal.loop-preserved

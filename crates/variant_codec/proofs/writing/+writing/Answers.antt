@@ -2,7 +2,6 @@ use Rattle.std.proofs.Common.{false, ap, sym, ◌∙◌}
 use Rattle.gd_variant.specs.declared.value.Variant.TheVariants.{Dict}
 use Rattle.gd_variant.specs.Tree.{plains, plain_pairs}
 use Rattle.variant_codec.specs.Header.{header}
-use Rattle.variant_codec.specs.Parts.{count}
 use Rattle.variant_codec.specs.Written.{written_all}
 use Rattle.variant_codec.proofs.Puts.{item_more, pair_more, count_plains, half_of_pairs, counted, dict_put}
 use Rattle.variant_codec.proofs.writing.+writing.Goals as goal
