@@ -18,3 +18,6 @@ pub use form::Form;
 pub use parts::{fault_at, raw_of, text_of};
 pub use reading::{small_of, value_of};
 pub use writing::{put, put_small};
+
+#[cfg(test)]
+mod tests;
