@@ -1,0 +1,4 @@
+//! Which scenes are valid.
+mod index;
+mod methods;
+mod props;
