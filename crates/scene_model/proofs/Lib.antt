@@ -5,3 +5,4 @@ pub mod ListLaws
 pub mod RepeatLaws
 pub mod SearchLaws
 pub mod IndexLaws
+pub mod EntryLaws

@@ -19,6 +19,7 @@ use crate::validity::props::shares_synced;
 use sqlite_items::at as item_at;
 
 /// A scene, and the places of the texts of its first nodes and scenes.
+#[derive(Clone, Copy)]
 pub struct SceneIndex<'s, 'a> {
     pub scene: &'a Scene,
     pub paths: &'s [Place<'a>],
