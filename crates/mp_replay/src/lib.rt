@@ -3,7 +3,6 @@
 
 mod lines;
 mod replay;
-mod stub;
 
 pub use lines::{PathLine, read_path_line};
 pub use replay::run;

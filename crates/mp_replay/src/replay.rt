@@ -1,7 +1,7 @@
 //! The run of the program.
 use crate::lines::{PathLine, is_scene, read_path_line};
-use crate::stub::{ReportNo, World, WorldStop};
 use gd_variant::{Bytes, OutOfMemory};
+use mp_world::{ReportNo, World, WorldStop};
 use scene_model::{Report, WorldNo, WorldOutcome};
 use session_text::{
     LineReader, LineWhy, NextLine, ReadStop, Sink, Source, Status, outcome_text, put_all,
@@ -62,7 +62,7 @@ fn report_lines(alloc: Global, world: &World, n: u64) -> Result<Bytes, OutOfMemo
     match world.report(alloc, REPORTED) {
         Ok(report) => done_and(alloc, n, &report),
         Err(ReportNo::NoPeer) => outcome_text(alloc, n, &WorldOutcome::Refused(WorldNo::NoPeer)),
-        Err(ReportNo::OutOfMemory) => Err(OutOfMemory),
+        Err(_) => Err(OutOfMemory),
     }
 }
 
@@ -72,7 +72,7 @@ fn run_line(alloc: Global, world: &mut World, n: u64, line: &[u8]) -> Result<Byt
         None => return Err(LineStop::NotALine),
         Some(PathLine::Report) => return Ok(report_lines(alloc, world, n)?),
         Some(PathLine::Connect) => world.connect(alloc)?,
-        Some(PathLine::Spawn { name, value }) => world.spawn(alloc, name, value)?,
+        Some(PathLine::Spawn { name, value }) => world.spawn(alloc, (name, value))?,
         Some(PathLine::Deliver) => world.deliver(alloc)?,
     };
     Ok(outcome_text(alloc, n, &outcome)?)

@@ -1,22 +1,22 @@
 -- The laws of compressed values: what is read is spelled so, and what is spelled so is read.
-use Rattle.std.proofs.Common.{◌≡◌, ℕ, ◌*◌, ◌<◌, ◌≤◌, Bool, true, false, cond, eqb, List, ◌++◌, length, Result, Ok, Err, refl, sym, ap, subst, ◌∙◌, append_assoc, arith, inl, inr}
-use Rattle.std.specs.Prelude.{ℤ, pos, negsuc, nat_lt}
-use Rattle.std.specs.Int.{Width, w8, byte_len}
+use Rattle.std.proofs.Common.{◌≡◌, ℕ, ◌*◌, ◌<◌, true, eqb, List, ◌++◌, length, Result, Ok, Err, refl, sym, ap, subst, ◌∙◌, append_assoc, arith, inl, inr}
+use Rattle.std.specs.Prelude.{ℤ, pos, negsuc}
+use Rattle.std.specs.Int.{w8, byte_len}
 use Rattle.std.proofs.lemmas.Bool.{eqb-true, cases_lt, lt-ltb, le-ltb}
 use Rattle.std.proofs.lemmas.List.{length-append}
 use Rattle.gd_variant.specs.declared.value.Variant.{Variant}
 use Rattle.gd_variant.specs.declared.value.Variant.TheVariants.{Int}
 use Rattle.byte_fields.specs.declared.fault.Fault.{Fault}
-use Rattle.byte_fields.specs.Fields.{◌>>=◌, word, number_at, IsBytes, fault}
+use Rattle.byte_fields.specs.Fields.{word, number_at, IsBytes}
 use Rattle.byte_fields.specs.Complement.{IsWithin, bits_of, signed_of}
 use Rattle.byte_fields.proofs.Fields.{IsWide, wide8, wide16, wide32, wide64, number_takes, number_again, number_shorter, length-word, with_ok, chosen, ok_is}
 use Rattle.byte_fields.proofs.Complement.{signed_of-bits_of, bits_of-below, bits_of-signed_of, signed_of-within}
 use Rattle.packet_codec.specs.declared.int.IntWidth.{IntWidth}
 use Rattle.packet_codec.specs.declared.int.IntWidth.TheVariants.{One, Two, Four, Eight}
-use Rattle.packet_codec.specs.Smalls.{mark_of, width_of, half_of, SpellsInt, SpellsSmall, fewest, fewest_for, int_bytes, written_small, IsSmallBuilt, IsInRange, AreSmallBuilt, AreInRange, width_at, int_of, small_at}
+use Rattle.packet_codec.specs.Smalls.{mark_of, width_of, half_of, SpellsInt, SpellsSmall, fewest, fewest_for, int_bytes, written_small, IsSmallBuilt, IsInRange, width_at, int_of, small_at}
 use Rattle.packet_codec.proofs.Lists.{ReadsAgain, TakesSpelled, Took, TakesSome, IsNeverEmpty}
 
-wide_of : (k : IntWidth) → IsWide (width_of k) (2 * half_of k)
+pub wide_of : (k : IntWidth) → IsWide (width_of k) (2 * half_of k)
 wide_of One = wide8
 wide_of Two = wide16
 wide_of Four = wide32

@@ -1,8 +1,8 @@
 -- The laws of packets.
-use Rattle.std.proofs.Common.{◌≡◌, ℕ, ◌+◌, ◌^◌, ◌<◌, ◌≤◌, Bool, true, false, cond, eqb, leb, List, ◌++◌, length, Result, Ok, Err, refl, sym, ap, subst, ◌∙◌, arith, inl, inr, ◌⊎◌}
-use Rattle.std.specs.Int.{w8, w32}
-use Rattle.std.specs.Prelude.{None, Some}
-use Rattle.std.proofs.lemmas.Bool.{eqb-true, le-leb, leb-true, lt-leb}
+use Rattle.std.proofs.Common.{◌≡◌, ℕ, ◌≤◌, Bool, true, false, cond, eqb, leb, List, ◌++◌, length, Result, Ok, Err, refl, sym, ap, subst, ◌∙◌, inl, inr, ◌⊎◌}
+use Rattle.std.specs.Int.{w8}
+use Rattle.std.specs.Prelude.{None}
+use Rattle.std.proofs.lemmas.Bool.{eqb-true, le-leb, leb-true}
 use Rattle.gd_variant.specs.declared.message.Bad.{Bad}
 use Rattle.gd_variant.specs.declared.message.Message.{Message}
 use Rattle.gd_variant.specs.declared.message.Message.TheVariants.{Plain as plain_packet}
@@ -10,10 +10,10 @@ use Rattle.gd_variant.specs.declared.message.Plain.{Plain}
 use Rattle.gd_variant.specs.declared.message.Plain.TheVariants.{Spawn}
 use Rattle.gd_variant.specs.declared.message.Why.TheVariants.{NotBuilt}
 use Rattle.byte_fields.specs.declared.fault.Fault.{Fault}
-use Rattle.byte_fields.specs.Fields.{◌>>=◌, word, number_at, IsBytes, fault}
+use Rattle.byte_fields.specs.Fields.{word, number_at, IsBytes, fault}
 use Rattle.byte_fields.proofs.Fields.{wide8, number_takes, with_ok, chosen}
 use Rattle.packet_codec.specs.Smalls.{written_smalls}
-use Rattle.packet_codec.specs.Reading.{spawn_at, plain_at}
+use Rattle.packet_codec.specs.Reading.{plain_at}
 use Rattle.packet_codec.specs.Packets.{most_bytes, Frames, FramesPlain, FramesAll, written_packet, written_plain, IsWritable, IsPlainWritable, IsMessageWritable, whole_packet, not_built, read_packet}
 use Rattle.packet_codec.proofs.Spawns.{spawn_again, spawn_takes, smalls_written, no_err}
 

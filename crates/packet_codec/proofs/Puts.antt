@@ -1,15 +1,14 @@
 -- Putting bytes at the end, one after the other.
-use Rattle.std.proofs.Common.{◌≡◌, ℕ, suc, ◌+◌, List, [], ◌∷◌, ◌++◌, length, get_or, Result, Ok, Err, refl, sym, subst, ap, ◌∙◌, append_assoc, ◌<◌, ◌≤◌, ◌^◌, ◌*◌, arith}
+use Rattle.std.proofs.Common.{◌≡◌, ℕ, suc, ◌+◌, List, [], ◌∷◌, ◌++◌, length, get_or, Result, Ok, Err, refl, sym, subst, ap, ◌∙◌, append_assoc, ◌<◌, ◌≤◌, ◌^◌, arith}
 use Rattle.std.specs.Prelude.{OnOk, Option, Some, None}
 use Rattle.std.specs.Int.{w8, w32}
 use Rattle.byte_fields.specs.Fields.{word}
 use Rattle.packet_codec.specs.Packets.{ids_bytes, AreIds, IsSpawn, spawn_bytes, IsPlainBuilt, IsPlainWritable, written_plain, most_bytes}
+use Rattle.packet_codec.proofs.Lengths.{length-spawn_bytes}
 use Rattle.packet_codec.specs.Smalls.{AreSmallBuilt, AreInRange, written_smalls}
 use Rattle.gd_variant.specs.declared.message.Plain.{Plain}
 use Rattle.gd_variant.specs.declared.message.Plain.TheVariants.{Spawn}
 use Rattle.gd_variant.specs.declared.value.Variant.{Variant}
-use Rattle.std.proofs.lemmas.List.{length-append}
-use Rattle.byte_fields.proofs.Fields.{wide32, length-word}
 
 -- a step that was done, and what is put after it
 pub put_then : {E : Type 0} (r : Result (Unit {0}) E) (old now new a b : List ℕ) → now ≡ old ++ a → OnOk r (new ≡ now ++ b) → OnOk r (new ≡ old ++ (a ++ b))
@@ -51,27 +50,9 @@ put_spawn_bytes r scene spawner net syncs name values o o1 o2 o3 o4 o5 o6 o7 o8 
     (put_then r o8 o9 new (word w8 0) values e9 h)))))))) in
     on_ok r (new ≡ o ++ k (word w8 0 ++ values)) (new ≡ o ++ k (0 ∷ values)) (λ e. e ∙ ap (λ (z : List ℕ). o ++ k z) (zero_byte values)) g
 
-ids_long : (ids : List ℕ) → length ids ≤ length (ids_bytes ids)
-ids_long [] = omega arith
-ids_long (id ∷ ids) = omega (arith, ids_long ids, length-append (word w32 id) (ids_bytes ids), length-word w32 (2 ^ 32) wide32 id)
-
 -- a spawn that is short enough has few ids and a short name
-pub few_ids : (scene spawner net : ℕ) (syncs name values : List ℕ) → length (spawn_bytes scene spawner net syncs name values) ≤ most_bytes → (length syncs < 2 ^ 32) × (length name + 1 < 2 ^ 32)
-unfolding spawn_bytes
-few_ids scene spawner net syncs name values le =
-    let h : length (ids_bytes syncs) + (length name + 1) ≤ most_bytes = omega (
-      arith,
-      le,
-      length-append (word w8 4) (word w8 scene ++ (word w32 spawner ++ (word w32 net ++ (word w32 (length syncs) ++ (word w32 (length name + 1) ++ (ids_bytes syncs ++ (name ++ (0 ∷ values)))))))),
-      length-append (word w8 scene) (word w32 spawner ++ (word w32 net ++ (word w32 (length syncs) ++ (word w32 (length name + 1) ++ (ids_bytes syncs ++ (name ++ (0 ∷ values))))))),
-      length-append (word w32 spawner) (word w32 net ++ (word w32 (length syncs) ++ (word w32 (length name + 1) ++ (ids_bytes syncs ++ (name ++ (0 ∷ values)))))),
-      length-append (word w32 net) (word w32 (length syncs) ++ (word w32 (length name + 1) ++ (ids_bytes syncs ++ (name ++ (0 ∷ values))))),
-      length-append (word w32 (length syncs)) (word w32 (length name + 1) ++ (ids_bytes syncs ++ (name ++ (0 ∷ values)))),
-      length-append (word w32 (length name + 1)) (ids_bytes syncs ++ (name ++ (0 ∷ values))),
-      length-append (ids_bytes syncs) (name ++ (0 ∷ values)),
-      length-append name (0 ∷ values),
-    ) in
-    (omega (arith, h, ids_long syncs), omega (arith, h))
+few_ids : (scene spawner net : ℕ) (syncs name values : List ℕ) → length (spawn_bytes scene spawner net syncs name values) ≤ most_bytes → (length syncs < 2 ^ 32) × (length name + 1 < 2 ^ 32)
+few_ids scene spawner net syncs name values le = let e = length-spawn_bytes scene spawner net syncs name values in (omega (arith, e, le), omega (arith, e, le))
 
 built_none : (scene spawner net : ℕ) (syncs name : List ℕ) (arg : Option Variant) (values : List Variant) → IsPlainBuilt (Spawn scene spawner net syncs name arg values) → (scene < 255) × AreSmallBuilt values × (arg ≡ None)
 built_none scene spawner net syncs name None values b = (b.0, b.1, refl)

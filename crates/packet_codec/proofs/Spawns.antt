@@ -1,8 +1,7 @@
 -- The laws of the Spawn packet.
-use Rattle.std.proofs.Common.{◌≡◌, ℕ, ◌+◌, ◌-◌, ◌^◌, ◌<◌, ◌≤◌, Bool, true, false, cond, eqb, leb, List, [], ◌∷◌, ◌++◌, length, take, drop, get_or, Result, Ok, Err, refl, sym, ap, subst, ◌∙◌, append_assoc, arith, inl, inr}
+use Rattle.std.proofs.Common.{◌≡◌, ℕ, ◌+◌, ◌-◌, ◌^◌, ◌<◌, Bool, true, false, cond, eqb, leb, List, [], ◌∷◌, ◌++◌, length, take, drop, get_or, Result, Ok, Err, refl, sym, ap, subst, ◌∙◌, arith, inl, inr}
 use Rattle.std.specs.Prelude.{None, not, ◌||◌}
 use Rattle.std.specs.Int.{w8, w32}
-use Rattle.std.specs.List.{AllByRecursion, flat_map}
 use Rattle.std.specs.Str.{is_utf8}
 use Rattle.std.proofs.lemmas.Bool.{ne_eqb, eqb-true, eqb-false, lt-leb, leb-false}
 use Rattle.std.proofs.lemmas.List.{length-append, take_at, drop_at, length-take, length-drop, take-append-drop}
@@ -12,13 +11,13 @@ use Rattle.gd_variant.specs.declared.message.Why.TheVariants.{Utf8, PathEnd, Not
 use Rattle.gd_variant.specs.declared.value.Variant.{Variant}
 use Rattle.gd_variant.specs.Sound.{has_no_zero}
 use Rattle.byte_fields.specs.declared.fault.Fault.{Fault}
-use Rattle.byte_fields.specs.Fields.{◌>>=◌, word, number_at, IsBytes, fault}
-use Rattle.byte_fields.proofs.Fields.{wide8, wide32, Number, number_takes, number_again, bind_ok, with_ok, guard_ok, passed, chosen, ok_is, IsBytes-drop}
-use Rattle.packet_codec.specs.Lists.{Joins, counted_by, filling_by}
-use Rattle.packet_codec.specs.Smalls.{SpellsSmall, SpellsSmalls, written_small, written_smalls, AreSmallBuilt, AreInRange, IsSmallBuilt, IsInRange, small_at, smalls_at}
-use Rattle.packet_codec.specs.Reading.{ids_at, name_length_at, checked_text, named, name_at, scene_at, spawn_at, plain_at}
+use Rattle.byte_fields.specs.Fields.{word, number_at, IsBytes, fault}
+use Rattle.byte_fields.proofs.Fields.{wide8, wide32, number_takes, number_again, bind_ok, with_ok, guard_ok, passed, chosen, ok_is, IsBytes-drop}
+use Rattle.packet_codec.specs.Lists.{Joins}
+use Rattle.packet_codec.specs.Smalls.{SpellsSmall, SpellsSmalls, written_small, written_smalls, AreSmallBuilt, AreInRange, small_at, smalls_at}
+use Rattle.packet_codec.specs.Reading.{ids_at, name_length_at, checked_text, name_at, scene_at, spawn_at, plain_at}
 use Rattle.packet_codec.specs.Packets.{ids_bytes, AreIds, IsName, IsSpawn, spawn_bytes, FramesSpawn, FramesPlain}
-use Rattle.packet_codec.proofs.Lists.{ReadsAgain, TakesSpelled, Took, TookAll, counted_again, counted_takes, filling_again, filling_takes, joined_written}
+use Rattle.packet_codec.proofs.Lists.{ReadsAgain, TakesSpelled, counted_again, counted_takes, filling_again, filling_takes}
 use Rattle.packet_codec.proofs.Ints.{small_again, small_takes, small_some, small_shorter, small_written}
 
 abbrev pub fails : {A : Type 0} → Fault → Result A Fault

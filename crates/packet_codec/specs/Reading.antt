@@ -1,5 +1,5 @@
 -- Reading a packet from left to right, with the first fault that is met.
-use Rattle.std.specs.Prelude.{◌≡◌, ℕ, zero, suc, ◌+◌, ◌-◌, List, [], ◌∷◌, length, take, drop, ◌||◌, not, Result, Ok, Err, None, nat_le, ◌==◌, if◌then◌else◌}
+use Rattle.std.specs.Prelude.{ℕ, ◌-◌, List, length, take, drop, ◌||◌, not, Result, Ok, Err, None, nat_le, ◌==◌, if◌then◌else◌}
 use Rattle.std.specs.Int.{w8, w32}
 use Rattle.std.specs.List.{slice_index}
 use Rattle.std.specs.Str.{is_utf8}

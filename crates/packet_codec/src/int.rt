@@ -86,7 +86,7 @@ pub fn smalls_from(alloc: Global, bytes: &[u8]) -> Result<ValueList, ReadError>
 }
 
 /// The fewest bytes that hold a number.
-fn width_for(n: i64) -> IntWidth
+pub fn width_for(n: i64) -> IntWidth
     ensures fewest { result ≡ fewest_for n }
     ensures fits { IsWithin (half_of result) n }
 {

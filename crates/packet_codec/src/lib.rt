@@ -8,12 +8,14 @@ mod encode;
 mod fields;
 mod int;
 mod laws;
+mod length;
 mod spawn;
 
 pub use byte_fields::CodecStop;
 pub use decode::decode_packet;
 pub use encode::encode_packet;
 pub use laws::{read_frames, round_trip, written_frames};
+pub use length::packet_len;
 
 #[cfg(test)]
 mod tests;

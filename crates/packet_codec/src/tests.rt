@@ -1,5 +1,8 @@
+ghost use Rattle.std.specs.Prelude.{IfOk};
+ghost use Rattle.packet_codec.specs.Packets.{IsBuilt};
+
 use super::*;
-use gd_variant::{Bad, Message, OutOfMemory, Plain, Text, Variant, Why};
+use gd_variant::{Bad, Bytes, Message, OutOfMemory, Plain, Text, Variant, Why};
 use sqlite_items::Items;
 use std::alloc::Global;
 use std::test::*;
@@ -9,7 +12,9 @@ const HEAD: [u8; 25] = [
     4, 0, 1, 0, 0, 0, 1, 0, 0, 0, 1, 0, 0, 0, 3, 0, 0, 0, 2, 0, 0, 0, 112, 49, 0,
 ];
 
-fn one_value(alloc: Global, value: i64) -> Result<Message, OutOfMemory> {
+fn one_value(alloc: Global, value: i64) -> Result<Message, OutOfMemory>
+    ensures { IfOk result (λ m. IsBuilt m) }
+{
     let mut syncs = Items::new(alloc);
     syncs.push(2)?;
     let mut values = Items::new(alloc);
@@ -25,17 +30,40 @@ fn one_value(alloc: Global, value: i64) -> Result<Message, OutOfMemory> {
     }))
 }
 
-fn is_written(alloc: Global, value: i64, tail: &[u8]) -> Result<bool, OutOfMemory> {
+fn packet_of(alloc: Global, m: &Message) -> Result<Bytes, OutOfMemory>
+    requires { IsBuilt m.now }
+{
+    if packet_len(m) > 8388608 {
+        return Err(OutOfMemory);
+    }
+    encode_packet(alloc, m)
+}
+
+/// The head with a value behind it.
+fn with_tail(alloc: Global, tail: &[u8]) -> Result<Vec<u8>, OutOfMemory> {
+    let mut bytes = Vec::from_slice(alloc, HEAD.as_slice())?;
+    bytes.extend_from_slice(tail)?;
+    Ok(bytes)
+}
+
+fn is_same(a: &[u8], b: &[u8]) -> bool {
+    a == b
+}
+
+fn encoded(alloc: Global, value: i64) -> Result<Bytes, OutOfMemory> {
     let message = one_value(alloc, value)?;
-    let bytes = encode_packet(alloc, &message)?;
-    let (head, rest) = bytes.as_slice().split_at(25);
-    Ok(head == HEAD.as_slice() && rest == tail)
+    packet_of(alloc, &message)
+}
+
+fn is_written(alloc: Global, value: i64, tail: &[u8]) -> Result<bool, OutOfMemory> {
+    let bytes = encoded(alloc, value)?;
+    let expected = with_tail(alloc, tail)?;
+    Ok(is_same(bytes.as_slice(), expected.as_slice()))
 }
 
 /// The value that is read behind the head, if the packet is one.
 fn value_of(alloc: Global, tail: &[u8]) -> Result<Option<i64>, OutOfMemory> {
-    let mut bytes = Vec::from_slice(alloc, HEAD.as_slice())?;
-    bytes.extend_from_slice(tail)?;
+    let bytes = with_tail(alloc, tail)?;
     match decode_packet(alloc, bytes.as_slice()) {
         Ok(Message::Plain(Plain::Spawn { values, .. })) => match values.get(0) {
             Some(Variant::Int(n)) => Ok(Some(*n)),

@@ -63,7 +63,7 @@ le_true : (m n : ℕ) → nat_le m n ≡ true → m ≤ n
 le_true m n h = grind (arith, nat_tests)
 
 -- a name has at most 64 bytes
-name_short : (name : List ℕ) → is_name name ≡ true → length name ≤ 64
+pub name_short : (name : List ℕ) → is_name name ≡ true → length name ≤ 64
 name_short name h =
     let two = both (nat_le 1 (length name) && nat_le (length name) 64) _ h in
     le_true (length name) 64 (both (nat_le 1 (length name)) (nat_le (length name) 64) two.0).1

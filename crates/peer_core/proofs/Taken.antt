@@ -218,7 +218,7 @@ spawn_free name rows h = step (is_name name) (has_name name rows) (is_full rows)
     step true true f e = absurd (cc e)
     step false t f e = absurd (cc e)
 
-numbers_right : (n : ℕ) → nat_le 4096 n ≡ false → (nat_lt 0 (1 + 2 * n) && nat_lt (1 + 2 * n) 2147483647) ≡ true
+pub numbers_right : (n : ℕ) → nat_le 4096 n ≡ false → (nat_lt 0 (1 + 2 * n) && nat_lt (1 + 2 * n) 2147483647) ≡ true
 numbers_right n h = grind (arith, nat_tests)
 
 pub next_right : (rows : List SpawnedRow) (name : List ℕ) (value : ℤ) → is_name name ≡ true → is_full rows ≡ false → IsTyped name value → is_right (next_row rows name value) ≡ true

@@ -104,3 +104,9 @@ fields_stand s v es e t lives is live made typed stands built = subst (λ b. Sta
 
 pub fields_unchanged : (s v : Kept) (e : Event) (t : Taken) → t.kept.spent ≡ false → v ≡ s → v.spent ≡ false → t ≡ taken packet_form (live_of v) e → is_done t.outcome ≡ false → record t.kept { spent = v.spent } ≡ s
 fields_unchanged s v e t lives is live made h = ap (λ b. record t.kept { spent = b }) (live ∙ sym lives) ∙ step_unchanged s v e t is live made h
+
+pub fields_taken : (s v : Kept) (e : Event) (t : Taken) → t.kept.spent ≡ false → v ≡ s → v.spent ≡ false → t ≡ taken packet_form (live_of v) e → record { outcome = t.outcome; kept = record t.kept { spent = v.spent } } ≡ taken packet_form s e
+fields_taken s v e t lives is live made = ap (λ b. record { outcome = t.outcome; kept = record t.kept { spent = b } }) (live ∙ sym lives) ∙ made ∙ ap (λ k. taken packet_form k e) (opened s v is live)
+
+pub fields_typed : (s v : Kept) (e : Event) → v ≡ s → v.spent ≡ false → IsTypedEvent packet_form (live_of v) e → IsTypedEvent packet_form s e
+fields_typed s v e is live typed = subst (λ k. IsTypedEvent packet_form k e) (opened s v is live) typed

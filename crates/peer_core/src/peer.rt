@@ -263,7 +263,7 @@ impl Peer {
     /// A peer with this number, 1 for the server, before its first event.
     pub fn new(alloc: Global, id: i32) -> Peer
         requires { pos 1 ≤ℤ id }
-        ensures id { result.id ≡ id }
+        ensures fresh { result ≡ record { id = id; spent = false; up = []; rows = [] } }
         ensures stands { StandsFor packet_form result [] }
     {
         Peer {
@@ -296,6 +296,9 @@ impl Peer {
         ensures answer { (es : List EventOf) → StandsFor packet_form self.old es → IfOk result (λ o. o ≡ path_answer packet_form self.old.id es event) }
         // afterwards it stands for that list with this event
         ensures stands { (es : List EventOf) → StandsFor packet_form self.old es → is_built packet_form self.old.id (accepted_events packet_form (path_peer self.old.id) es) event ≡ true → OnOk result (StandsFor packet_form self.new (event ∷ es)) }
+        // one step on what it keeps, and what types say of the event
+        ensures kept { IfOk result (λ o. record { outcome = o; kept = self.new } ≡ taken packet_form self.old event) }
+        ensures typed { OnOk result (IsTypedEvent packet_form self.old event) }
         ensures unchanged { IfOk result (λ o. is_done o ≡ false → self.new ≡ self.old) }
 
         // a spent peer says so, and only want of memory spends it

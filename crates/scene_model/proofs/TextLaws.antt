@@ -27,3 +27,9 @@ text_answer r s t h = one_answer r (text_eq s t) h (text_eq-Decides s t)
 
 pub text_eq-other : (s t : List ℕ) → text_eq s t ≡ false → s ≢ t
 text_eq-other s t h e = false≢true (sym h ∙ ap (λ u. text_eq u t) e ∙ text_eq-same t)
+
+pub text_eq-sym : (s t : List ℕ) → text_eq s t ≡ text_eq t s
+text_eq-sym s t = one_answer (text_eq s t) (text_eq t s) (text_eq-Decides s t) (λ h. sym (text_eq-true t s h), λ e. text_eq-from t s (sym e))
+  where
+    text_eq-from : (a b : List ℕ) → a ≡ b → text_eq a b ≡ true
+    text_eq-from a b e = ap (text_eq a) (sym e) ∙ text_eq-same a

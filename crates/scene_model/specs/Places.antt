@@ -1,5 +1,5 @@
 -- Texts with their places in a list, kept sorted.
-use Rattle.std.specs.Prelude.{◌≡◌, ◌≢◌, ℕ, ◌<◌, ◌≤◌, List, [], ◌∷◌, map, length, slice_get, All, Contains, Option, Some, None, option_map, option_and_then}
+use Rattle.std.specs.Prelude.{◌≡◌, ◌≢◌, ℕ, ◌<◌, ◌≤◌, nat_lt, Bool, false, List, [], ◌∷◌, map, length, slice_get, All, Contains, Option, Some, None, option_map, option_and_then}
 use Rattle.std.specs.declared.cmp.Ordering.{Ordering}
 use Rattle.std.specs.Ordering.{nat_cmp, ordering_then}
 use Rattle.std.specs.Cmp.Lexicographic.{slice_cmp}
@@ -28,13 +28,25 @@ if_any (p ∷ ps) t = Some t
 abbrev pub target_of : Node → Option (List ℕ)
 target_of n = option_and_then (λ (d : SyncDef). if_any d.props d.of) (sync_of n)
 
+-- the texts by which the entries of a list are looked up: nodes by their paths
+abbrev pub path_texts : List Node → List (Option (List ℕ))
+path_texts nodes = map (λ (n : Node). Some n.path) nodes
+
+-- scenes by their names
+abbrev pub scene_texts : List SceneDef → List (Option (List ℕ))
+scene_texts scenes = map (λ (d : SceneDef). Some d.name) scenes
+
+-- methods by theirs
+abbrev pub method_texts : List Method → List (Option (List ℕ))
+method_texts methods = map (λ (m : Method). Some m.name) methods
+
 -- the text of each entry, where it has one
 abbrev pub texts_of : Listing → List (Option (List ℕ))
-texts_of (Paths nodes) = map (λ (n : Node). Some n.path) nodes.now
+texts_of (Paths nodes) = path_texts nodes.now
 texts_of (Unders nodes) = map under_of nodes.now
 texts_of (Targets nodes) = map target_of nodes.now
-texts_of (Scenes scenes) = map (λ (d : SceneDef). Some d.name) scenes.now
-texts_of (Methods methods) = map (λ (m : Method). Some m.name) methods.now
+texts_of (Scenes scenes) = scene_texts scenes.now
+texts_of (Methods methods) = method_texts methods.now
 
 -- a text and its place, as the sorted list has them
 abbrev pub Place : Type 0
@@ -75,3 +87,8 @@ pub record IsFirstFrom (text : List ℕ) (from : ℕ) (texts : List (Option (Lis
 abbrev pub IsNext : List ℕ → ℕ → List (Option (List ℕ)) → Option ℕ → Type 0
 IsNext text from texts None = (k : ℕ) → from ≤ k → slice_get texts k ≢ Some (Some text)
 IsNext text from texts (Some at) = IsFirstFrom text from texts at
+
+-- whether that place is before another
+abbrev pub is_below : ℕ → Option ℕ → Bool
+is_below i None = false
+is_below i (Some at) = nat_lt at i

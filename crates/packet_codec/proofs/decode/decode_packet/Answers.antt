@@ -1,5 +1,4 @@
-use Rattle.std.proofs.Common.{◌≡◌, Ok, Err, sym, ◌∙◌, arith}
-use Rattle.gd_variant.specs.declared.message.Message.TheVariants.{Plain as plain_packet}
+use Rattle.std.proofs.Common.{Ok, Err, sym, ◌∙◌, arith}
 use Rattle.packet_codec.proofs.Packets.{only, plain_takes, short_reads}
 use Rattle.packet_codec.proofs.decode.decode_packet.Goals as goal
 

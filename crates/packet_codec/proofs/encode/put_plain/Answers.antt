@@ -1,5 +1,4 @@
-use Rattle.std.proofs.Common.{sym, ap, subst, ◌∙◌, length, arith}
-use Rattle.gd_variant.specs.Sound.{has_no_zero}
+use Rattle.std.proofs.Common.{sym}
 use Rattle.packet_codec.specs.Packets.{IsSpawn, IsPlainWritable}
 use Rattle.packet_codec.specs.Smalls.{AreInRange}
 use Rattle.packet_codec.proofs.Puts.{few, built_scene, is_writable, both_ok}

@@ -1,10 +1,9 @@
-use Rattle.std.proofs.Common.{refl, ap, ◌∙◌}
 use Rattle.std.specs.Int.{w32}
 use Rattle.std.proofs.lemmas.Result.{err_from_is_err_and}
 use Rattle.byte_fields.specs.Fields.{number_at}
 use Rattle.packet_codec.specs.Lists.{counted_by}
 use Rattle.packet_codec.specs.Reading.{ids_at}
-use Rattle.packet_codec.proofs.Lists.{with_front, counted_goes_on, counted_ends, counted_is_done}
+use Rattle.packet_codec.proofs.Lists.{counted_goes_on, counted_ends, counted_is_done}
 use Rattle.packet_codec.proofs.fields.ids_from.Goals as goal
 
 pub returns-in_err-id : goal.returns-in_err-id

@@ -1,4 +1,4 @@
-use Rattle.std.proofs.Common.{◌≡◌, length}
+use Rattle.std.proofs.Common.{length}
 use Rattle.packet_codec.specs.Smalls.{small_at}
 use Rattle.packet_codec.specs.Lists.{filling_by}
 use Rattle.packet_codec.proofs.Lists.{Fills}

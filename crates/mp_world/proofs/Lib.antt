@@ -1,0 +1,10 @@
+pub mod Writable
+pub mod Rows
+pub mod Peers
+pub mod Worlds
+pub mod Deliveries
+pub mod Replicas
+pub mod Reports
+pub mod Sends
+pub mod Made
+pub mod Scripts

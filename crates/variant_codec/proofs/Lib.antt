@@ -1,0 +1,15 @@
+pub mod Loop
+pub mod Pushed
+pub mod NewKeys
+pub mod Low
+pub mod Puts
+pub mod Laws
+pub mod Fields
+pub mod Codes
+pub mod Bodies
+pub mod Trees
+pub mod Whole
+pub mod Small
+pub mod Spelled
+pub mod Forms
+pub mod Top

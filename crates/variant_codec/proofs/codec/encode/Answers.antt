@@ -1,0 +1,8 @@
+use Rattle.std.proofs.Common.{ℕ, List, ◌++◌, ap, ◌∙◌}
+use Rattle.gd_variant.specs.Tree.{plain}
+use Rattle.variant_codec.specs.Written.{written}
+use Rattle.variant_codec.proofs.Top.{written_is}
+use Rattle.variant_codec.proofs.codec.encode.Goals as goal
+
+pub returns-clause-spells : goal.returns-clause-spells
+returns-clause-spells c = written_is (plain c.args.value.now) c.from_vec.result c.requires (c.from_vec.ensures ∙ c.in_ok-put.ensures ∙ ap (λ (l : List ℕ). l ++ written (plain c.args.value.now)) c.new-out.ensures.items)

@@ -1,0 +1,8 @@
+use Rattle.std.proofs.Common.{[]}
+use Rattle.variant_codec.specs.Reading.{element_at}
+use Rattle.variant_codec.proofs.Loop.{goes_on}
+use Rattle.variant_codec.proofs.parts.elements_of.Goals as goal
+
+pub loop-preserved : goal.loop-preserved
+loop-preserved c =
+    goes_on (λ _. element_at) c.loop.items c.push.new.self c.args.count c.loop.counter c.loop.rest.now c.in_ok-item.item c.in_ok-item.after.now [] c.args.bytes.now c.loop-test.true c.in_ok-item.ensures c.in_ok-push.ensures.ok c.loop.invariant
