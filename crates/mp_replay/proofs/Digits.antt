@@ -64,8 +64,7 @@ digit_at (d ∷ ds) (suc i) h lt = digit_at ds i (and_parts (is_digit d) (list_a
 pub digit_more : (ds : List ℕ) (i v d : ℕ) → AreDigits ds → length ds ≤ 10 → i < length ds → v ≡ digits_value 10 (take i ds) → d ≡ get_or ds i 0 → (48 ≤ d) × (d ≤ 57) × (v < 1000000000) × (v * 10 + (d - 48) ≡ digits_value 10 (take (i + 1) ds))
 digit_more ds i v d digits few lt is at =
     let range = digit_range (get_or ds i 0) (digit_at ds i digits lt) in
-    let small = digits_value_short digits_model (take i ds) 9 (taken_all is_digit i ds digits) (omega (arith, length-take i ds)) in
-    (
+    let small = digits_value_short digits_model (take i ds) 9 (taken_all is_digit i ds digits) (omega (arith, length-take i ds)) in (
       omega (arith, range.0),
       omega (arith, range.1),
       omega (arith, small),

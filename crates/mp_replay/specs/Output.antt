@@ -1,7 +1,6 @@
 -- What a run of the first path writes, and where it stops.
-use Rattle.std.specs.Prelude.{◌≡◌, ℕ, ◌+◌, ◌≤◌, ℤ, pos, negsuc, Bool, true, false, not, ◌&&◌, List, [], ◌∷◌, ◌++◌, length, take, drop, Option, Some, None, if◌then◌else◌, nat_le, nat_lt, String, string_bytes, codes}
+use Rattle.std.specs.Prelude.{◌≡◌, ℕ, ◌+◌, ◌≤◌, ℤ, pos, negsuc, Bool, true, false, not, ◌&&◌, List, [], ◌∷◌, ◌++◌, length, take, drop, Option, Some, None, if◌then◌else◌, nat_le, nat_lt, codes}
 use Rattle.std.specs.List.{list_any}
-use Rattle.std.specs.declared.alloc.Global.{Global}
 use Rattle.gd_variant.specs.Words.{text_eq}
 use Rattle.scene_model.specs.declared.event.Op.TheVariants as operation
 use Rattle.scene_model.specs.declared.world.WorldEvent.{WorldEvent}
@@ -132,11 +131,6 @@ output input = text_of (read_in input).lines
 -- the number of the line that stops it: the first that isn't one, the 65th, or line 1 of an empty input
 abbrev pub stop : List ℕ → Option ℕ
 stop input = (read_in input).stop
-
--- the words of the first path
-abbrev pub is_replay : List (String Global) → Bool
-is_replay (w ∷ []) = text_eq (string_bytes w) (codes "replay")
-is_replay ws = false
 
 -- what a status says of the input
 abbrev pub Fits : List ℕ → Status → Type 0

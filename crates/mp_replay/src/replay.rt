@@ -1,4 +1,16 @@
 //! The run of the program.
+ghost use Rattle.std.specs.Prelude.{◌≡◌, ◌≤◌, ◌++◌, [], ◌↔◌, None, true, false, IfOk, IfSome};
+ghost use Rattle.gd_variant.specs.Words.{text_eq};
+ghost use Rattle.scene_model.specs.declared.world.WorldEvent.{WorldEvent as EventOf};
+ghost use Rattle.scene_model.specs.declared.world.WorldOutcome.TheVariants as answers;
+ghost use Rattle.session_text.specs.Outcomes.{outcome_lines};
+ghost use Rattle.session_text.specs.Reports.{report_lines as report_lines_of};
+ghost use Rattle.session_text.specs.declared.status.LineWhy.TheVariants as why;
+ghost use Rattle.session_text.specs.declared.status.Status.TheVariants as status;
+ghost use Rattle.mp_world.specs.Stands.{Stands};
+ghost use Rattle.mp_replay.specs.Ends.{MayEnd, is_replay as is_replay_of, read_end};
+ghost use Rattle.mp_replay.specs.Output.{client, report_after};
+
 use crate::lines::{PathLine, is_scene, read_path_line};
 use gd_variant::{Bytes, OutOfMemory};
 use mp_world::{ReportNo, World, WorldStop};
@@ -20,6 +32,7 @@ const LAST_NUMBER: u64 = 64;
 const REPORTED: i32 = 2;
 
 /// Why a line gives nothing to write.
+#[derive(Clone, Copy, Debug, Drop, PartialEq, Eq)]
 enum LineStop {
     /// It isn't a line of the first path.
     NotALine,
@@ -38,15 +51,26 @@ impl From<WorldStop> for LineStop {
     }
 }
 
-fn is_replay(words: &[String]) -> bool {
+fn is_word(word: &str, bytes: &str) -> bool
+    ensures { result ≡ text_eq word.now bytes.now }
+{
+    word == bytes
+}
+
+/// Whether the words are those of the first path.
+fn is_replay(words: &[String]) -> bool
+    ensures { result ≡ is_replay_of words.now }
+{
     match words {
-        [word] => word.as_str() == "replay",
+        [word] => is_word(word.as_str(), "replay"),
         _ => false,
     }
 }
 
 /// Puts the lines of a report behind the line that says that it is done.
-fn done_and(alloc: Global, n: u64, report: &Report) -> Result<Bytes, OutOfMemory> {
+fn done_and(alloc: Global, n: u64, report: &Report) -> Result<Bytes, OutOfMemory>
+    ensures { IfOk result (λ b. b ≡ outcome_lines n (answers.Done None []) ++ report_lines_of client report.now) }
+{
     let done = WorldOutcome::Done {
         made: None,
         steps: Items::new(alloc),
@@ -66,26 +90,40 @@ fn report_lines(alloc: Global, world: &World, n: u64) -> Result<Bytes, OutOfMemo
     }
 }
 
-/// Runs one line behind the scene line, and answers what it writes.
+/// The client connects, where it hasn't.
+fn connect(alloc: Global, world: &mut World) -> Result<WorldOutcome, LineStop> {
+    if world.is_connected() {
+        return Err(LineStop::NotALine);
+    }
+    Ok(world.connect(alloc)?)
+}
+
+/// Runs line `n`, and answers what it writes.
 fn run_line(alloc: Global, world: &mut World, n: u64, line: &[u8]) -> Result<Bytes, LineStop> {
     let outcome = match read_path_line(alloc, world.is_connected(), line)? {
         None => return Err(LineStop::NotALine),
         Some(PathLine::Report) => return Ok(report_lines(alloc, world, n)?),
-        Some(PathLine::Connect) => world.connect(alloc)?,
+        Some(PathLine::Connect) => connect(alloc, world)?,
         Some(PathLine::Spawn { name, value }) => world.spawn(alloc, (name, value))?,
         Some(PathLine::Deliver) => world.deliver(alloc)?,
     };
     Ok(outcome_text(alloc, n, &outcome)?)
 }
 
-fn not_built(n: u64) -> Status {
+/// Line `n` isn't one of the first path.
+fn not_built(n: u64) -> Status
+    ensures { result ≡ status.BadLine n why.NotBuilt }
+{
     Status::BadLine {
         n,
         why: LineWhy::NotBuilt,
     }
 }
 
-fn read_status(stop: ReadStop) -> Status {
+/// How a run ends where a line can't be read.
+fn read_status(stop: ReadStop) -> Status
+    ensures { result ≡ read_end stop }
+{
     match stop {
         ReadStop::Failed => Status::ReadFault,
         ReadStop::OutOfMemory => Status::OutOfMemory,
@@ -93,16 +131,28 @@ fn read_status(stop: ReadStop) -> Status {
 }
 
 /// Reads the scene line. What is answered ends the run.
-fn read_scene<S: Source>(alloc: Global, reader: &mut LineReader, source: &mut S) -> Option<Status> {
+fn read_scene<S: Source>(alloc: Global, reader: &mut LineReader, source: &mut S) -> Option<Status>
+    ensures later { S.faults source.old ≤ S.faults source.new }
+    ensures ends { IfSome result (λ s. MayEnd (S.faults source.old) (S.faults source.new) 0 0 s) }
+{
     match reader.next(alloc, source) {
-        Ok(NextLine::Line(line)) if is_scene(line.as_slice()) => None,
+        Ok(NextLine::Line(line)) => {
+            if is_scene(line.as_slice()) {
+                None
+            } else {
+                Some(not_built(1))
+            }
+        }
         Ok(_) => Some(not_built(1)),
         Err(stop) => Some(read_status(stop)),
     }
 }
 
 /// Writes what a line gives. What is answered ends the run.
-fn write_text<K: Sink>(text: &[u8], sink: &mut K) -> Option<Status> {
+fn write_text<K: Sink>(text: &[u8], sink: &mut K) -> Option<Status>
+    ensures later { K.faults sink.old ≤ K.faults sink.new }
+    ensures ends { IfSome result (λ s. MayEnd 0 0 (K.faults sink.old) (K.faults sink.new) s) }
+{
     match put_all(sink, text) {
         Ok(()) => None,
         Err(_) => Some(Status::WriteFault),
@@ -116,7 +166,10 @@ fn take_line<K: Sink>(
     n: u64,
     line: &[u8],
     sink: &mut K,
-) -> Option<Status> {
+) -> Option<Status>
+    ensures later { K.faults sink.old ≤ K.faults sink.new }
+    ensures ends { IfSome result (λ s. MayEnd 0 0 (K.faults sink.old) (K.faults sink.new) s) }
+{
     match run_line(alloc, world, n, line) {
         Ok(text) => write_text(text.as_slice(), sink),
         Err(LineStop::NotALine) => Some(not_built(n)),
@@ -132,7 +185,11 @@ fn take_next<S: Source, K: Sink>(
     reader: &mut LineReader,
     source: &mut S,
     sink: &mut K,
-) -> Option<Status> {
+) -> Option<Status>
+    ensures reads { S.faults source.old ≤ S.faults source.new }
+    ensures writes { K.faults sink.old ≤ K.faults sink.new }
+    ensures ends { IfSome result (λ s. MayEnd (S.faults source.old) (S.faults source.new) (K.faults sink.old) (K.faults sink.new) s) }
+{
     match reader.next(alloc, source) {
         Ok(NextLine::Line(line)) => take_line(alloc, world, n, line.as_slice(), sink),
         Ok(NextLine::Long) => Some(not_built(n)),
@@ -142,7 +199,10 @@ fn take_next<S: Source, K: Sink>(
 }
 
 /// Reads on behind the last line that may be there.
-fn end_of<S: Source>(alloc: Global, reader: &mut LineReader, source: &mut S) -> Status {
+fn end_of<S: Source>(alloc: Global, reader: &mut LineReader, source: &mut S) -> Status
+    ensures reads { S.faults source.old ≤ S.faults source.new }
+    ensures ends { MayEnd (S.faults source.old) (S.faults source.new) 0 0 result }
+{
     match reader.next(alloc, source) {
         Ok(NextLine::End) => Status::Done,
         Ok(_) => not_built(LAST_NUMBER + 1),
@@ -156,7 +216,9 @@ fn run_lines<S: Source, K: Sink>(
     reader: &mut LineReader,
     source: &mut S,
     sink: &mut K,
-) -> Status {
+) -> Status
+    ensures { MayEnd (S.faults source.old) (S.faults source.new) (K.faults sink.old) (K.faults sink.new) result }
+{
     let mut world = World::new(alloc);
     for n in 2..LAST_NUMBER + 1 {
         if let Some(status) = take_next(alloc, &mut world, n, reader, source, sink) {
@@ -172,7 +234,10 @@ pub fn run<S: Source, K: Sink>(
     words: &[String],
     source: &mut S,
     sink: &mut K,
-) -> Status {
+) -> Status
+    ensures usage { result ≡ status.Usage ↔ is_replay_of words.now ≡ false }
+    ensures ends { is_replay_of words.now ≡ true → MayEnd (S.faults source.old) (S.faults source.new) (K.faults sink.old) (K.faults sink.new) result }
+{
     if !is_replay(words) {
         return Status::Usage;
     }

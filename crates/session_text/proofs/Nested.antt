@@ -1,5 +1,5 @@
 -- Values inside values.
-use Rattle.std.proofs.Common.{◌≡◌, List, [], ◌∷◌, map, refl, sym, ap, ap₂, ◌∙◌, codes}
+use Rattle.std.proofs.Common.{◌≡◌, List, [], ◌∷◌, map, refl, sym, ap, ◌∙◌, codes}
 use Rattle.std.specs.Prelude.{Vec}
 use Rattle.std.specs.declared.alloc.Global.{Global}
 use Rattle.gd_variant.specs.declared.value.Variant.{Variant}
@@ -13,7 +13,7 @@ use Rattle.serde_json.specs.declared.value.Value.{Value}
 use Rattle.serde_json.specs.declared.value.Value.TheVariants as json
 use Rattle.serde_json.proofs.Views.{view-Array}
 use Rattle.session_text.specs.Json.{tagged_of}
-use Rattle.session_text.specs.Values.{pair_data, pair_of, pairs_data, tree_data, trees_data, value_of}
+use Rattle.session_text.specs.Values.{pair_of, pairs_data, tree_data, trees_data, value_of}
 
 trees_data_is : (vs : List Variant) → trees_data (plains vs) ≡ items_of (map value_of vs)
 trees_data_is [] = refl

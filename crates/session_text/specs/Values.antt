@@ -1,5 +1,5 @@
 -- How values stand in a line of JSON.
-use Rattle.std.specs.Prelude.{ℕ, ℤ, Bool, true, false, List, [], ◌∷◌, map, codes}
+use Rattle.std.specs.Prelude.{ℕ, ℤ, Bool, true, false, List, map, codes}
 use Rattle.serde_json.specs.Data.{Data, null, boolean, string, array, Items, no_items, item}
 use Rattle.serde_json.specs.View.{items_of}
 use Rattle.gd_variant.specs.declared.value.Variant.{Variant}

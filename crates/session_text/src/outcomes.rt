@@ -100,7 +100,12 @@ fn push_raws(
 }
 
 /// The entries that changed nothing at a peer.
-fn push_skips(alloc: Global, out: &mut Vec<u8>, peer: i32, skips: &[Skip]) -> Result<(), OutOfMemory>
+fn push_skips(
+    alloc: Global,
+    out: &mut Vec<u8>,
+    peer: i32,
+    skips: &[Skip],
+) -> Result<(), OutOfMemory>
     ensures { OnOk result (out.new.items ≡ out.old.items ++ flat_map (skip_line peer) skips.now) }
 {
     for skip in skips {
@@ -173,12 +178,7 @@ fn push_done(
 }
 
 /// A refusal of the session.
-fn push_world_no(
-    alloc: Global,
-    out: &mut Vec<u8>,
-    n: u64,
-    no: &WorldNo,
-) -> Result<(), OutOfMemory>
+fn push_world_no(alloc: Global, out: &mut Vec<u8>, n: u64, no: &WorldNo) -> Result<(), OutOfMemory>
     ensures { OnOk result (out.new.items ≡ out.old.items ++ world_no_line n no.now) }
 {
     let word = string(alloc, "refused")?;
