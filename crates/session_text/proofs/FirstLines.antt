@@ -1,10 +1,10 @@
 -- The first line of an input whose front is held.
-use Rattle.std.proofs.Common.{◌≡◌, ℕ, ◌+◌, ◌≤◌, ◌<◌, Bool, true, false, not, cond, List, [], ◌∷◌, ◌++◌, length, take, drop, refl, sym, ap, subst, ◌∙◌, arith, length-append, append-nil}
+use Rattle.std.proofs.Common.{◌≡◌, ℕ, ◌+◌, ◌≤◌, ◌<◌, Bool, true, false, not, cond, List, [], ◌∷◌, ◌++◌, length, take, drop, refl, sym, ap, subst, ◌∙◌, arith, length-append, append-nil, length-drop, nat_lt}
 use Rattle.std.specs.Prelude.{Option, Some, None, Ok}
 use Rattle.std.specs.List.{position_or_len, position, before_first, after_first}
 use Rattle.std.proofs.lemmas.List.Sums.{prefix_len-le-length}
-use Rattle.std.proofs.lemmas.List.{take-append-le, drop-append-le}
-use Rattle.std.proofs.lemmas.Bool.{lt-ltb, le-ltb}
+use Rattle.std.proofs.lemmas.List.{take-append-le, drop-append-le, length-take}
+use Rattle.std.proofs.lemmas.Bool.{lt-ltb, le-ltb, ltb-false}
 use Rattle.session_text.specs.declared.lines.NextLine.{NextLine}
 use Rattle.session_text.specs.declared.lines.NextLine.TheVariants.{Line}
 use Rattle.session_text.specs.Lines.{a_line, too_long, no_line, first_line, is_line_feed, ReadsLine, IsReading, Reader, Settled, unread}
@@ -128,3 +128,34 @@ by_end old new found left bytes false is settled e =
 pub settled_line : (old new : Reader) (found : NextLine) (left : Option (List ℕ)) (bytes : List ℕ) → Settled old found new → unread old left ≡ Some bytes → ReadsLine old.most bytes (Ok found) (unread new left)
 settled_line old new found None bytes settled e = absurd (cc)
 settled_line old new found (Some left) bytes settled e = by_end old new found left bytes old.ended refl settled e
+
+-- ---- for callers: what a first line says of the bytes
+
+split_by : (b : Bool) (front behind l rest : List ℕ) → cond b too_long (a_line front behind) ≡ a_line l rest → (b ≡ false) × (front ≡ l) × (behind ≡ rest)
+split_by true front behind l rest e = absurd (cc)
+split_by false front behind l rest e = (refl, (cc), (cc))
+
+never_none : (b : Bool) (front behind : List ℕ) → cond b too_long (a_line front behind) ≡ no_line → ⊥
+never_none true front behind e = cc
+never_none false front behind e = cc
+
+-- a line has at most `most` bytes, and what follows it is shorter than what was there
+pub a_line-parts : (most : ℕ) (bytes l rest : List ℕ) → first_line most bytes ≡ a_line l rest → (length l ≤ most) × (length rest < length bytes) × (l ≡ before_first is_line_feed bytes) × (rest ≡ after_first is_line_feed bytes)
+unfolding first_line
+a_line-parts most [] l rest e = absurd (cc)
+a_line-parts most (x ∷ xs) l rest e =
+    let place : ℕ = position_or_len is_line_feed (x ∷ xs) in
+    let parts = split_by (nat_lt most place) (before_first is_line_feed (x ∷ xs)) (after_first is_line_feed (x ∷ xs)) l rest e in
+    let within : place ≤ most = ltb-false most place parts.0 in
+    (
+      omega (arith, ap length parts.1, length-take place (x ∷ xs)),
+      omega (arith, ap length parts.2, length-drop (place + 1) (x ∷ xs)),
+      sym parts.1,
+      sym parts.2,
+    )
+
+-- nothing is there
+pub no_line-empty : (most : ℕ) (bytes : List ℕ) → first_line most bytes ≡ no_line → bytes ≡ []
+unfolding first_line
+no_line-empty most [] e = refl
+no_line-empty most (x ∷ xs) e = absurd (never_none (nat_lt most (position_or_len is_line_feed (x ∷ xs))) _ _ e)
