@@ -1,0 +1,42 @@
+#!/usr/bin/env bash
+# Times the proved program on a session of one connect, as many spawns as its limit of lines allows, their deliveries and reports.
+#
+#   bench/run.sh [REPEATS]      REPEATS runs (200) of the same input, one after the other
+#
+# It builds nothing: `rt ci`, or `rt run` in crates/godot_mp_cli, makes the program first.
+set -u
+here=$(cd "$(dirname "$0")" && pwd)
+program=$here/../crates/godot_mp_cli/out/godot_mp_cli
+repeats=${1:-200}
+case $repeats in '' | *[!0-9]* | 0) echo "usage: bench/run.sh [REPEATS]" >&2; exit 2 ;; esac
+[ -x "$program" ] || { echo "no proved program stands: run 'rt ci' first" >&2; exit 1; }
+work=$(mktemp -d)
+trap 'rm -rf "$work"' EXIT
+input=$work/session
+{
+    head -n 1 "$here/../examples/first.session"
+    echo '["connect"]'
+    for i in $(seq 1 30); do printf '["op",1,["spawn","s","p","n%s",[["v",%s]]]]\n' "$i" "$((i * 1000))"; done
+    for i in $(seq 1 30); do echo '["rel",1,2]'; done
+    echo '["report",2]'
+    echo '["report",2]'
+} > "$input"
+"$program" replay < "$input" > "$work/out" || exit 1
+lines=$(wc -l < "$input")
+begin=$(date +%s%N)
+for _ in $(seq 1 "$repeats"); do "$program" replay < "$input" > /dev/null; done
+end=$(date +%s%N)
+# What the same number of runs of a program that does nothing takes: the cost of starting one.
+for _ in $(seq 1 "$repeats"); do /bin/true < "$input" > /dev/null; done
+idle=$(date +%s%N)
+awk -v n="$repeats" -v lines="$lines" -v bytes="$(wc -c < "$input")" -v spent="$((end - begin))" -v start="$((idle - end))" 'BEGIN {
+    printf "session: %d lines, %d bytes\n", lines, bytes
+    printf "runs per second: %.0f (%.2f times the time of a program that does nothing)\n", n / (spent / 1e9), spent / start
+}'
+peak=$( { command -v python3 > /dev/null && python3 - "$program" "$input" <<'P'
+import resource, subprocess, sys
+subprocess.run([sys.argv[1], "replay"], stdin=open(sys.argv[2]), stdout=subprocess.DEVNULL, check=True)
+print(resource.getrusage(resource.RUSAGE_CHILDREN).ru_maxrss)
+P
+} || echo unknown)
+echo "peak memory: $peak KB"
