@@ -102,15 +102,15 @@ pub record Read : Type 0 where
   pub lines : List PathLine
   pub stop : Option ℕ
 
-abbrev mutual
-  -- the lines behind the scene line and these
-  pub read_on : List PathLine → List (List ℕ) → Read
-  read_on ls [] = record { lines = ls; stop = None }
-  read_on ls (b ∷ bs) = read_by ls (line_after ls b) bs
+-- the lines behind one that may be there; else that one stops it
+abbrev pub read_by : List PathLine → Option PathLine → (List PathLine → Read) → Read
+read_by ls None rest = record { lines = ls; stop = Some (next_number ls) }
+read_by ls (Some l) rest = rest (l ∷ ls)
 
-  pub read_by : List PathLine → Option PathLine → List (List ℕ) → Read
-  read_by ls None bs = record { lines = ls; stop = Some (next_number ls) }
-  read_by ls (Some l) bs = read_on (l ∷ ls) bs
+-- the lines behind the scene line and these
+abbrev pub read_on : List PathLine → List (List ℕ) → Read
+read_on ls [] = record { lines = ls; stop = None }
+read_on ls (b ∷ bs) = read_by ls (line_after ls b) (λ ms. read_on ms bs)
 
 -- the scene of the first path
 abbrev pub scene_line : List ℕ

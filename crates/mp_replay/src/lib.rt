@@ -3,6 +3,8 @@
 
 mod lines;
 mod replay;
+#[cfg(test)]
+mod tests;
 
 pub use lines::{PathLine, read_path_line};
 pub use replay::run;
