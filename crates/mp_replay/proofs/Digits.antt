@@ -1,18 +1,18 @@
 -- Digits, and the number that they write; names, which are texts.
-use Rattle.std.proofs.Common.{◌≡◌, ℕ, zero, suc, ◌+◌, ◌*◌, ◌-◌, ◌^◌, ◌<◌, ◌≤◌, Bool, true, false, cond, List, [], ◌∷◌, ◌++◌, length, take, get_or, refl, sym, ap, subst, ◌∙◌, arith, slice_index}
+use Rattle.std.proofs.Common.{◌≡◌, ℕ, zero, suc, ◌+◌, ◌*◌, ◌-◌, ◌^◌, ◌<◌, ◌≤◌, Bool, true, false, cond, List, [], ◌∷◌, ◌++◌, length, take, drop, get_or, refl, sym, ap, subst, ◌∙◌, arith, slice_index}
 use Rattle.std.specs.Prelude.{◌&&◌, not, nat_le, nat_eq}
 use Rattle.std.specs.List.{prefix_len, list_all}
 use Rattle.std.specs.Char.{digit_value}
 use Rattle.std.specs.Str.{IsAscii, IsUtf8}
 use Rattle.std.specs.Str.Parse.{digits_value}
-use Rattle.std.proofs.lemmas.Bool.{and_parts, le-leb, leb-true}
+use Rattle.std.proofs.lemmas.Bool.{and_parts, le-leb, leb-true, ne_eqb}
 use Rattle.std.proofs.lemmas.Int.Digits.{digits_value_more}
-use Rattle.std.proofs.lemmas.List.{length-take}
+use Rattle.std.proofs.lemmas.List.{length-take, length-drop}
 use Rattle.std.proofs.lemmas.Grind.{common_steps}
 use Rattle.std.proofs.lemmas.Str.{digit_value_digit, IsUtf8-from_ascii}
 use Rattle.std.proofs.lemmas.Str.Parse.{IsDigitsTest, IsNumeralModel, numerals_by_value, digits_value_short}
 use Rattle.gd_variant.specs.Text.{HasNoZero}
-use Rattle.mp_replay.specs.Lines.{front_of, is_digit, is_name_byte}
+use Rattle.mp_replay.specs.Lines.{front_of, is_digit, is_name_byte, name_in, spawn_start}
 
 and_true : {a b : Bool} → a ≡ true → b ≡ true → (a && b) ≡ true
 and_true e f = rw (e, f) refl
@@ -34,16 +34,18 @@ digits_test = record {
 pub digits_model : IsNumeralModel AreDigits (digits_value 10)
 digits_model = numerals_by_value AreDigits digits_test
 
-mutual
-  -- what passes at the front passes
-  front_all : (test : ℕ → Bool) (xs : List ℕ) → list_all test (front_of test xs) ≡ true
-  front_all test [] = refl
-  front_all test (x ∷ xs) = front_by test x xs (test x) refl
+one_more : (n : ℕ) → 1 + n ≡ suc n
+one_more n = omega arith
 
-  -- by whether the first passes
-  front_by : (test : ℕ → Bool) (x : ℕ) (xs : List ℕ) (b : Bool) → test x ≡ b → list_all test (front_of test (x ∷ xs)) ≡ true
-  front_by test x xs true e = rw e (and_true e (front_all test xs))
-  front_by test x xs false e = rw e refl
+-- by whether the first passes, where what passes of the rest does
+front_by : (test : ℕ → Bool) (x : ℕ) (xs : List ℕ) (b : Bool) → test x ≡ b → list_all test (front_of test xs) ≡ true → list_all test (front_of test (x ∷ xs)) ≡ true
+front_by test x xs true e h = rw (e, one_more (prefix_len test xs)) (and_true e h)
+front_by test x xs false e h = rw e refl
+
+-- what passes at the front passes
+front_all : (test : ℕ → Bool) (xs : List ℕ) → list_all test (front_of test xs) ≡ true
+front_all test [] = refl
+front_all test (x ∷ xs) = front_by test x xs (test x) refl (front_all test xs)
 
 -- so does what is taken of it
 taken_all : (test : ℕ → Bool) (n : ℕ) (xs : List ℕ) → list_all test xs ≡ true → list_all test (take n xs) ≡ true
@@ -85,11 +87,16 @@ pub name_utf8 : (bs : List ℕ) → list_all is_name_byte bs ≡ true → IsUtf8
 name_utf8 bs h = IsUtf8-from_ascii bs (name_index bs h)
 
 not_zero : (c : ℕ) → 0 < c → not (nat_eq c 0) ≡ true
-not_zero zero h = absurd (omega arith)
-not_zero (suc c) h = refl
+not_zero c h = rw (ne_eqb c 0 (λ e. omega (arith, e, h))) refl
 
 pub name_no_zero : (bs : List ℕ) → list_all is_name_byte bs ≡ true → HasNoZero bs
 name_no_zero [] h = refl
 name_no_zero (b ∷ bs) h =
     let p = and_parts (is_name_byte b) (list_all is_name_byte bs) h in
     and_true (not_zero b (name_below b p.0).0) (name_no_zero bs p.1)
+
+-- the name that a line can have is no longer than the line
+pub name_within : (line : List ℕ) → length (name_in line) ≤ length line
+name_within line =
+    let rest = drop (length spawn_start) line in
+    omega (arith, length-take (prefix_len is_name_byte rest) rest, length-drop (length spawn_start) line)

@@ -150,11 +150,12 @@ fn text_of(alloc: Global, name: &[u8]) -> Result<Text, OutOfMemory>
     requires { list_all is_name_byte_of name.now ≡ true }
     ensures { IfOk result (λ t. t ≡ name.now) }
 {
-    let read = std::str::from_utf8(name);
-    prove!(read.is_ok());
-    match read {
+    match std::str::from_utf8(name) {
         Ok(text) => Text::from_str(alloc, text),
-        Err(_) => Err(OutOfMemory),
+        Err(_) => {
+            prove!(false);
+            Err(OutOfMemory)
+        }
     }
 }
 
