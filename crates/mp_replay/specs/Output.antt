@@ -132,19 +132,25 @@ output input = text_of (read_in input).lines
 abbrev pub stop : List ℕ → Option ℕ
 stop input = (read_in input).stop
 
--- what a status says of the input
-abbrev pub Fits : List ℕ → Status → Type 0
-Fits input status.Done = stop input ≡ None
-Fits input (status.BadLine n reason) = (stop input ≡ Some n) × (reason ≡ why.NotBuilt)
-Fits input status.Usage = Unit {0}
-Fits input status.ReadFault = Unit {0}
-Fits input status.WriteFault = Unit {0}
-Fits input status.OutOfMemory = Unit {0}
-Fits input _ = ⊥
+-- whole lines were written: what the first of the lines write
+pub record WholeLines (r : Read) (held : List ℕ) (now : Option (List ℕ)) : Type 0 where
+  pub before : List PathLine
+  pub after : List PathLine
+  pub lines : r.lines ≡ after ++ before
+  pub put : now ≡ Some (held ++ text_of before)
 
--- what was written before a stop: all, whole lines from the front, or some of the first bytes
-abbrev pub Written : List ℕ → Status → List ℕ → Type 0
-Written input status.Done text = text ≡ output input
-Written input (status.BadLine n reason) text = text ≡ output input
-Written input status.WriteFault text = (k : ℕ) × (text ≡ take k (output input))
-Written input s text = (k : ℕ) × (text ≡ text_of (drop k (read_in input).lines))
+-- some of the first bytes were written
+pub record SomeBytes (r : Read) (held : List ℕ) (now : Option (List ℕ)) : Type 0 where
+  pub text : List ℕ
+  pub more : List ℕ
+  pub front : text ++ more ≡ text_of r.lines
+  pub put : now ≡ Some (held ++ text)
+
+-- how a run over these lines ends, and what its sink holds then
+abbrev pub EndsAs : Read → List ℕ → Status → Option (List ℕ) → Type 0
+EndsAs r held status.Done now = (r.stop ≡ None) × (now ≡ Some (held ++ text_of r.lines))
+EndsAs r held (status.BadLine n reason) now = (r.stop ≡ Some n) × (reason ≡ why.NotBuilt) × (now ≡ Some (held ++ text_of r.lines))
+EndsAs r held status.ReadFault now = WholeLines r held now
+EndsAs r held status.OutOfMemory now = WholeLines r held now
+EndsAs r held status.WriteFault now = SomeBytes r held now
+EndsAs r held s now = ⊥

@@ -1,15 +1,20 @@
 //! The run of the program.
-ghost use Rattle.std.specs.Prelude.{◌≡◌, ◌≤◌, ◌++◌, [], ◌↔◌, None, true, false, IfOk, IfSome};
+ghost use Rattle.std.specs.Prelude.{◌≡◌, ◌≤◌, ◌<◌, ◌++◌, ◌+◌, [], List, ℕ, ◌↔◌, Some, None, true, false, IfOk, IfErr, IfSome};
 ghost use Rattle.gd_variant.specs.Words.{text_eq};
 ghost use Rattle.scene_model.specs.declared.world.WorldEvent.{WorldEvent as EventOf};
 ghost use Rattle.scene_model.specs.declared.world.WorldOutcome.TheVariants as answers;
+ghost use Rattle.session_text.specs.Lines.{fresh, unread};
 ghost use Rattle.session_text.specs.Outcomes.{outcome_lines};
 ghost use Rattle.session_text.specs.Reports.{report_lines as report_lines_of};
 ghost use Rattle.session_text.specs.declared.status.LineWhy.TheVariants as why;
 ghost use Rattle.session_text.specs.declared.status.Status.TheVariants as status;
 ghost use Rattle.mp_world.specs.Stands.{Stands};
+ghost use Rattle.mp_replay.specs.declared.lines.PathLine.{PathLine as LineOf};
+ghost use Rattle.mp_replay.specs.declared.lines.PathLine.TheVariants as path;
+ghost use Rattle.mp_replay.specs.declared.replay.LineStop.TheVariants as LineStop;
 ghost use Rattle.mp_replay.specs.Ends.{MayEnd, is_replay as is_replay_of, read_end};
-ghost use Rattle.mp_replay.specs.Output.{client, report_after};
+ghost use Rattle.mp_replay.specs.Output.{EndsAs, client, lines_in, next_number, read_all, read_in, read_on, report_after, text_of};
+ghost use Rattle.mp_replay.specs.Steps.{Acts, EndsReading, Happens, Ran, ReadsScene, RunsLine, Steps, TakesLine};
 
 use crate::lines::{PathLine, is_scene, read_path_line};
 use gd_variant::{Bytes, OutOfMemory};
@@ -40,12 +45,16 @@ enum LineStop {
 }
 
 impl From<OutOfMemory> for LineStop {
+    ghost from_gives = { λ _ e. e ≡ LineStop.OutOfMemory };
+
     fn from(_e: OutOfMemory) -> LineStop {
         LineStop::OutOfMemory
     }
 }
 
 impl From<WorldStop> for LineStop {
+    ghost from_gives = { λ _ e. e ≡ LineStop.OutOfMemory };
+
     fn from(_e: WorldStop) -> LineStop {
         LineStop::OutOfMemory
     }
@@ -82,7 +91,9 @@ fn done_and(alloc: Global, n: u64, report: &Report) -> Result<Bytes, OutOfMemory
 }
 
 /// The lines that a report writes.
-fn report_lines(alloc: Global, world: &World, n: u64) -> Result<Bytes, OutOfMemory> {
+fn report_lines(alloc: Global, world: &World, n: u64) -> Result<Bytes, OutOfMemory>
+    ensures { (es : List EventOf) → Stands world.now es → IfOk result (λ b. b ≡ report_after n es) }
+{
     match world.report(alloc, REPORTED) {
         Ok(report) => done_and(alloc, n, &report),
         Err(ReportNo::NoPeer) => outcome_text(alloc, n, &WorldOutcome::Refused(WorldNo::NoPeer)),
@@ -90,24 +101,43 @@ fn report_lines(alloc: Global, world: &World, n: u64) -> Result<Bytes, OutOfMemo
     }
 }
 
-/// The client connects, where it hasn't.
-fn connect(alloc: Global, world: &mut World) -> Result<WorldOutcome, LineStop> {
-    if world.is_connected() {
-        return Err(LineStop::NotALine);
+/// Lets happen what a line says. A report answers none.
+fn happen(
+    alloc: Global,
+    world: &mut World,
+    line: PathLine,
+) -> Result<Option<WorldOutcome>, WorldStop>
+    requires { line ≡ path.Connect → world.old.client ≡ None }
+    ensures { (ls : List LineOf) → Ran world.old ls → IfOk result (λ o. Happens ls line o world.new) }
+{
+    match line {
+        PathLine::Connect => Ok(Some(world.connect(alloc)?)),
+        PathLine::Spawn { name, value } => Ok(Some(world.spawn(alloc, (name, value))?)),
+        PathLine::Deliver => Ok(Some(world.deliver(alloc)?)),
+        PathLine::Report => Ok(None),
     }
-    Ok(world.connect(alloc)?)
+}
+
+/// Lets happen what line `n` says, and answers what it writes.
+fn act(alloc: Global, world: &mut World, n: u64, line: PathLine) -> Result<Bytes, LineStop>
+    requires { line ≡ path.Connect → world.old.client ≡ None }
+    ensures acts { (ls : List LineOf) → Ran world.old ls → n ≡ next_number ls → IfOk result (λ text. Acts ls line text world.new) }
+    ensures stop { IfErr result (λ e. e ≡ LineStop.OutOfMemory) }
+{
+    match happen(alloc, world, line)? {
+        Some(outcome) => Ok(outcome_text(alloc, n, &outcome)?),
+        None => Ok(report_lines(alloc, world, n)?),
+    }
 }
 
 /// Runs line `n`, and answers what it writes.
-fn run_line(alloc: Global, world: &mut World, n: u64, line: &[u8]) -> Result<Bytes, LineStop> {
-    let outcome = match read_path_line(alloc, world.is_connected(), line)? {
-        None => return Err(LineStop::NotALine),
-        Some(PathLine::Report) => return Ok(report_lines(alloc, world, n)?),
-        Some(PathLine::Connect) => connect(alloc, world)?,
-        Some(PathLine::Spawn { name, value }) => world.spawn(alloc, (name, value))?,
-        Some(PathLine::Deliver) => world.deliver(alloc)?,
-    };
-    Ok(outcome_text(alloc, n, &outcome)?)
+fn run_line(alloc: Global, world: &mut World, n: u64, bytes: &[u8]) -> Result<Bytes, LineStop>
+    ensures { (ls : List LineOf) → Ran world.old ls → n ≡ next_number ls → RunsLine ls bytes.now result world.new }
+{
+    match read_path_line(alloc, world.is_connected(), bytes)? {
+        Some(line) => act(alloc, world, n, line),
+        None => Err(LineStop::NotALine),
+    }
 }
 
 /// Line `n` isn't one of the first path.
