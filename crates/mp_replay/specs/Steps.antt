@@ -49,6 +49,13 @@ RunsLine ls bytes (Ok text) w = Acted ls bytes text w
 RunsLine ls bytes (Err line_stop.NotALine) w = path_line (list_any is_connect ls) bytes ≡ None
 RunsLine ls bytes (Err line_stop.OutOfMemory) w = Unit {0}
 
+-- how a text was written: whole, or some of its first bytes
+abbrev pub PutsText : Option (List ℕ) → Option Status → List ℕ → Option (List ℕ) → Type 0
+PutsText None result text now = now ≡ None
+PutsText (Some held) None text now = now ≡ Some (held ++ text)
+PutsText (Some held) (Some status.WriteFault) text now = (k : ℕ) × (now ≡ Some (held ++ take k text))
+PutsText (Some held) (Some s) text now = ⊥
+
 -- the text of a line was written
 pub record Put (ls : List PathLine) (bytes held : List ℕ) (w : Parts) (now : Option (List ℕ)) : Type 0 where
   pub line : PathLine

@@ -14,7 +14,7 @@ ghost use Rattle.mp_replay.specs.declared.lines.PathLine.TheVariants as path;
 ghost use Rattle.mp_replay.specs.declared.replay.LineStop.TheVariants as LineStop;
 ghost use Rattle.mp_replay.specs.Ends.{MayEnd, is_replay as is_replay_of, read_end};
 ghost use Rattle.mp_replay.specs.Output.{EndsAs, client, lines_in, next_number, read_all, read_in, read_on, report_after, text_of};
-ghost use Rattle.mp_replay.specs.Steps.{Acts, EndsReading, Happens, Ran, ReadsScene, RunsLine, Steps, TakesLine};
+ghost use Rattle.mp_replay.specs.Steps.{Acts, EndsReading, Happens, Ran, ReadsScene, RunsLine, Steps, PutsText, TakesLine};
 
 use crate::lines::{PathLine, is_scene, read_path_line};
 use gd_variant::{Bytes, OutOfMemory};
@@ -162,8 +162,11 @@ fn read_status(stop: ReadStop) -> Status
 
 /// Reads the scene line. What is answered ends the run.
 fn read_scene<S: Source>(alloc: Global, reader: &mut LineReader, source: &mut S) -> Option<Status>
+    requires { reader.old.most ≡ 256 }
     ensures later { S.faults source.old ≤ S.faults source.new }
     ensures ends { IfSome result (λ s. MayEnd (S.faults source.old) (S.faults source.new) 0 0 s) }
+    ensures most { reader.new.most ≡ 256 }
+    ensures reads { (bytes : List ℕ) → unread reader.old (S.left source.old) ≡ Some bytes → ReadsScene (read_all (lines_in bytes)) result (unread reader.new (S.left source.new)) }
 {
     match reader.next(alloc, source) {
         Ok(NextLine::Line(line)) => {
@@ -173,7 +176,8 @@ fn read_scene<S: Source>(alloc: Global, reader: &mut LineReader, source: &mut S)
                 Some(not_built(1))
             }
         }
-        Ok(_) => Some(not_built(1)),
+        Ok(NextLine::Long) => Some(not_built(1)),
+        Ok(NextLine::End) => Some(not_built(1)),
         Err(stop) => Some(read_status(stop)),
     }
 }
@@ -182,6 +186,7 @@ fn read_scene<S: Source>(alloc: Global, reader: &mut LineReader, source: &mut S)
 fn write_text<K: Sink>(text: &[u8], sink: &mut K) -> Option<Status>
     ensures later { K.faults sink.old ≤ K.faults sink.new }
     ensures ends { IfSome result (λ s. MayEnd 0 0 (K.faults sink.old) (K.faults sink.new) s) }
+    ensures puts { PutsText (K.held sink.old) result text.now (K.held sink.new) }
 {
     match put_all(sink, text) {
         Ok(()) => None,
@@ -194,13 +199,14 @@ fn take_line<K: Sink>(
     alloc: Global,
     world: &mut World,
     n: u64,
-    line: &[u8],
+    bytes: &[u8],
     sink: &mut K,
 ) -> Option<Status>
     ensures later { K.faults sink.old ≤ K.faults sink.new }
     ensures ends { IfSome result (λ s. MayEnd 0 0 (K.faults sink.old) (K.faults sink.new) s) }
+    ensures takes { (ls : List LineOf) → (held : List ℕ) → Ran world.old ls → n ≡ next_number ls → K.held sink.old ≡ Some held → TakesLine ls bytes.now held result world.new (K.held sink.new) }
 {
-    match run_line(alloc, world, n, line) {
+    match run_line(alloc, world, n, bytes) {
         Ok(text) => write_text(text.as_slice(), sink),
         Err(LineStop::NotALine) => Some(not_built(n)),
         Err(LineStop::OutOfMemory) => Some(Status::OutOfMemory),
@@ -216,9 +222,12 @@ fn take_next<S: Source, K: Sink>(
     source: &mut S,
     sink: &mut K,
 ) -> Option<Status>
+    requires { reader.old.most ≡ 256 }
     ensures reads { S.faults source.old ≤ S.faults source.new }
     ensures writes { K.faults sink.old ≤ K.faults sink.new }
     ensures ends { IfSome result (λ s. MayEnd (S.faults source.old) (S.faults source.new) (K.faults sink.old) (K.faults sink.new) s) }
+    ensures most { reader.new.most ≡ 256 }
+    ensures steps { (ls : List LineOf) → (held : List ℕ) → (bytes : List ℕ) → Ran world.old ls → n ≡ next_number ls → n ≤ 64 → unread reader.old (S.left source.old) ≡ Some bytes → K.held sink.old ≡ Some (held ++ text_of ls) → Steps (read_on ls (lines_in bytes)) ls held result world.new (K.held sink.new) (unread reader.new (S.left source.new)) }
 {
     match reader.next(alloc, source) {
         Ok(NextLine::Line(line)) => take_line(alloc, world, n, line.as_slice(), sink),
@@ -230,12 +239,15 @@ fn take_next<S: Source, K: Sink>(
 
 /// Reads on behind the last line that may be there.
 fn end_of<S: Source>(alloc: Global, reader: &mut LineReader, source: &mut S) -> Status
+    requires { reader.old.most ≡ 256 }
     ensures reads { S.faults source.old ≤ S.faults source.new }
     ensures ends { MayEnd (S.faults source.old) (S.faults source.new) 0 0 result }
+    ensures last { (ls : List LineOf) → (bytes : List ℕ) → next_number ls ≡ 65 → unread reader.old (S.left source.old) ≡ Some bytes → EndsReading (read_on ls (lines_in bytes)) ls result }
 {
     match reader.next(alloc, source) {
         Ok(NextLine::End) => Status::Done,
-        Ok(_) => not_built(LAST_NUMBER + 1),
+        Ok(NextLine::Line(_)) => not_built(LAST_NUMBER + 1),
+        Ok(NextLine::Long) => not_built(LAST_NUMBER + 1),
         Err(stop) => read_status(stop),
     }
 }
@@ -247,13 +259,17 @@ fn run_lines<S: Source, K: Sink>(
     source: &mut S,
     sink: &mut K,
 ) -> Status
-    ensures { MayEnd (S.faults source.old) (S.faults source.new) (K.faults sink.old) (K.faults sink.new) result }
+    requires { reader.old.most ≡ 256 }
+    ensures ends { MayEnd (S.faults source.old) (S.faults source.new) (K.faults sink.old) (K.faults sink.new) result }
+    ensures output { (bytes : List ℕ) → (held : List ℕ) → unread reader.old (S.left source.old) ≡ Some bytes → K.held sink.old ≡ Some held → EndsAs (read_on [] (lines_in bytes)) held result (K.held sink.new) }
 {
     let mut world = World::new(alloc);
-    for n in 2..LAST_NUMBER + 1 {
+    let mut n = 2;
+    while n <= LAST_NUMBER {
         if let Some(status) = take_next(alloc, &mut world, n, reader, source, sink) {
             return status;
         }
+        n += 1;
     }
     end_of(alloc, reader, source)
 }
@@ -267,6 +283,8 @@ pub fn run<S: Source, K: Sink>(
 ) -> Status
     ensures usage { result ≡ status.Usage ↔ is_replay_of words.now ≡ false }
     ensures ends { is_replay_of words.now ≡ true → MayEnd (S.faults source.old) (S.faults source.new) (K.faults sink.old) (K.faults sink.new) result }
+    ensures output { is_replay_of words.now ≡ true → (input : List ℕ) → (held : List ℕ) → S.left source.old ≡ Some input → K.held sink.old ≡ Some held → EndsAs (read_in input) held result (K.held sink.new) }
+    ensures untouched { is_replay_of words.now ≡ false → (source.new ≡ source.old) × (sink.new ≡ sink.old) }
 {
     if !is_replay(words) {
         return Status::Usage;
