@@ -17,7 +17,7 @@ use Rattle.mp_replay.specs.Ends.{read_end}
 use Rattle.mp_replay.specs.Output.{EndsAs, Read, SomeBytes, WholeLines, lines_in, next_number, read_all, read_on, scene_line, text_after, text_of}
 use Rattle.mp_replay.specs.Steps.{Acted, Broke, EndsReading, Kept, Put, PutsText, Ran, ReadsScene, SceneRead, StepOn, Steps, Stopped, TakesLine}
 use Rattle.mp_replay.proofs.Reading.{scene_read, other_scene, long_scene, no_scene, line_stops, line_goes_on, long_stops, end_stops, late_stops}
-use Rattle.mp_replay.proofs.Written.{put_more, whole_lines, nothing_put, some_bytes}
+use Rattle.mp_replay.proofs.Written.{Behind, put_more, reads_behind, whole_lines, some_bytes}
 
 -- ---- what the reader says, over lines of 256 bytes
 
@@ -90,7 +90,7 @@ next_taken ls held bytes l rest (Some (status.BadLine k reason)) w now left n h 
       t.0.put ∙ ap (λ (r : Read). Some (held ++ text_of r.lines)) (sym is),
     )
 next_taken ls held bytes l rest (Some status.WriteFault) w now left n h e t = some_bytes (read_on ls (lines_in bytes)) ls t.line (lines_in rest) held t.count now (line_goes_on ls bytes l rest t.line n h t.read) t.put
-next_taken ls held bytes l rest (Some status.OutOfMemory) w now left n h e t = whole_lines (read_on ls (lines_in bytes)) ls (lines_in bytes) held now refl t
+next_taken ls held bytes l rest (Some status.OutOfMemory) w now left n h e t = whole_lines (read_on ls (lines_in bytes)) ls held now (reads_behind ls (lines_in bytes)) t
 next_taken ls held bytes l rest (Some status.Done) w now left n h e t = absurd t
 next_taken ls held bytes l rest (Some status.Usage) w now left n h e t = absurd t
 next_taken ls held bytes l rest (Some (status.LineLong m)) w now left n h e t = absurd t
@@ -111,30 +111,30 @@ next_line ls held bytes l slice k result w now left at n is h t =
 
 -- ---- how a run ends
 
-pub ends_after : (r : Read) (ls : List PathLine) (bs : List (List ℕ)) (held : List ℕ) (s : Status) (now : Option (List ℕ)) → r ≡ read_on ls bs → now ≡ Some (held ++ text_of ls) → EndsReading r ls s → EndsAs r held s now
-ends_after r ls bs held status.Done now e is p = (ap (λ (x : Read). x.stop) p, is ∙ ap (λ (x : Read). Some (held ++ text_of x.lines)) (sym p))
-ends_after r ls bs held (status.BadLine n reason) now e is p = (ap (λ (x : Read). x.stop) p.0, p.1, is ∙ ap (λ (x : Read). Some (held ++ text_of x.lines)) (sym p.0))
-ends_after r ls bs held status.ReadFault now e is p = whole_lines r ls bs held now e is
-ends_after r ls bs held status.OutOfMemory now e is p = whole_lines r ls bs held now e is
-ends_after r ls bs held status.Usage now e is p = absurd p
-ends_after r ls bs held (status.LineLong n) now e is p = absurd p
-ends_after r ls bs held status.InputLong now e is p = absurd p
-ends_after r ls bs held (status.PoolFull n) now e is p = absurd p
-ends_after r ls bs held status.WriteFault now e is p = absurd p
-ends_after r ls bs held status.ListenFault now e is p = absurd p
-ends_after r ls bs held status.DialFault now e is p = absurd p
-ends_after r ls bs held status.SpawnFault now e is p = absurd p
-ends_after r ls bs held status.BadGreeting now e is p = absurd p
-ends_after r ls bs held status.LinkFault now e is p = absurd p
-ends_after r ls bs held status.JournalFull now e is p = absurd p
+pub ends_after : (r : Read) (ls : List PathLine) (held : List ℕ) (s : Status) (now : Option (List ℕ)) → Behind r.lines ls → now ≡ Some (held ++ text_of ls) → EndsReading r ls s → EndsAs r held s now
+ends_after r ls held status.Done now e is p = (ap (λ (x : Read). x.stop) p, is ∙ ap (λ (x : Read). Some (held ++ text_of x.lines)) (sym p))
+ends_after r ls held (status.BadLine n reason) now e is p = (ap (λ (x : Read). x.stop) p.0, p.1, is ∙ ap (λ (x : Read). Some (held ++ text_of x.lines)) (sym p.0))
+ends_after r ls held status.ReadFault now e is p = whole_lines r ls held now e is
+ends_after r ls held status.OutOfMemory now e is p = whole_lines r ls held now e is
+ends_after r ls held status.Usage now e is p = absurd p
+ends_after r ls held (status.LineLong n) now e is p = absurd p
+ends_after r ls held status.InputLong now e is p = absurd p
+ends_after r ls held (status.PoolFull n) now e is p = absurd p
+ends_after r ls held status.WriteFault now e is p = absurd p
+ends_after r ls held status.ListenFault now e is p = absurd p
+ends_after r ls held status.DialFault now e is p = absurd p
+ends_after r ls held status.SpawnFault now e is p = absurd p
+ends_after r ls held status.BadGreeting now e is p = absurd p
+ends_after r ls held status.LinkFault now e is p = absurd p
+ends_after r ls held status.JournalFull now e is p = absurd p
 
 pub next_long : (ls : List PathLine) (held bytes : List ℕ) (k : ℕ) (s : Status) (now : Option (List ℕ)) → k ≡ next_number ls → s ≡ status.BadLine k why.NotBuilt → first_line 256 bytes ≡ too_long → now ≡ Some (held ++ text_of ls) → EndsAs (read_on ls (lines_in bytes)) held s now
 next_long ls held bytes k s now at b h is =
-    ends_after (read_on ls (lines_in bytes)) ls (lines_in bytes) held s now refl is
+    ends_after (read_on ls (lines_in bytes)) ls held s now (reads_behind ls (lines_in bytes)) is
     (subst (λ x. EndsReading (read_on ls (lines_in bytes)) ls x) (sym (b ∙ ap (λ n. status.BadLine n why.NotBuilt) at)) (long_stops ls bytes h, refl))
 
 pub next_end : (ls : List PathLine) (held bytes : List ℕ) (now : Option (List ℕ)) → first_line 256 bytes ≡ no_line → now ≡ Some (held ++ text_of ls) → EndsAs (read_on ls (lines_in bytes)) held status.Done now
-next_end ls held bytes now h is = ends_after (read_on ls (lines_in bytes)) ls (lines_in bytes) held status.Done now refl is (end_stops ls bytes h)
+next_end ls held bytes now h is = ends_after (read_on ls (lines_in bytes)) ls held status.Done now (reads_behind ls (lines_in bytes)) is (end_stops ls bytes h)
 
 fault_ends : (r : Read) (ls : List PathLine) (stop : ReadStop) → EndsReading r ls (read_end stop)
 fault_ends r ls read.Failed = tt
@@ -144,7 +144,7 @@ pub fault_reading : (r : Read) (ls : List PathLine) (stop : ReadStop) (s : Statu
 fault_reading r ls stop s b = subst (λ x. EndsReading r ls x) (sym b) (fault_ends r ls stop)
 
 pub next_fault : (ls : List PathLine) (held bytes : List ℕ) (stop : ReadStop) (s : Status) (now : Option (List ℕ)) → s ≡ read_end stop → now ≡ Some (held ++ text_of ls) → EndsAs (read_on ls (lines_in bytes)) held s now
-next_fault ls held bytes stop s now b is = ends_after (read_on ls (lines_in bytes)) ls (lines_in bytes) held s now refl is (fault_reading (read_on ls (lines_in bytes)) ls stop s b)
+next_fault ls held bytes stop s now b is = ends_after (read_on ls (lines_in bytes)) ls held s now (reads_behind ls (lines_in bytes)) is (fault_reading (read_on ls (lines_in bytes)) ls stop s b)
 
 -- ---- behind the last line
 

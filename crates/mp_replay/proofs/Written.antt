@@ -49,12 +49,16 @@ pub put_more : (held a b : List ℕ) → (held ++ a) ++ b ≡ held ++ (a ++ b)
 put_more held a b = append_three held a b
 
 -- what these lines write was written
-pub whole_lines : (r : Read) (ls : List PathLine) (bs : List (List ℕ)) (held : List ℕ) (now : Option (List ℕ)) → r ≡ read_on ls bs → now ≡ Some (held ++ text_of ls) → WholeLines r held now
-whole_lines r ls bs held now e h = let b = reads_behind ls bs in record { before = ls; after = b.more; lines = ap (λ (x : Read). x.lines) e ∙ b.lines; put = h }
+pub whole_lines : (r : Read) (ls : List PathLine) (held : List ℕ) (now : Option (List ℕ)) → Behind r.lines ls → now ≡ Some (held ++ text_of ls) → WholeLines r held now
+whole_lines r ls held now b h = record { before = ls; after = b.more; lines = b.lines; put = h }
+
+-- all lines stand behind none
+pub all_behind : (all : List PathLine) → Behind all []
+all_behind all = record { more = all; lines = append_nil all }
 
 -- nothing was written
-pub nothing_put : (r : Read) (held : List ℕ) (now : Option (List ℕ)) → now ≡ Some held → WholeLines r held now
-nothing_put r held now h = record { before = []; after = r.lines; lines = append_nil r.lines; put = h ∙ ap Some (append_nil held) }
+pub nothing : (held : List ℕ) (now : Option (List ℕ)) → now ≡ Some held → now ≡ Some (held ++ text_of [])
+nothing held now h = h ∙ ap Some (append_nil held)
 
 -- some of what one line more writes was written
 pub some_bytes : (r : Read) (ls : List PathLine) (l : PathLine) (bs : List (List ℕ)) (held : List ℕ) (count : ℕ) (now : Option (List ℕ)) → r ≡ read_on (l ∷ ls) bs → now ≡ Some ((held ++ text_of ls) ++ take count (text_after ls l)) → SomeBytes r held now

@@ -266,10 +266,10 @@ fn run_lines<S: Source, K: Sink>(
     let mut world = World::new(alloc);
     let mut n = 2;
     while n <= LAST_NUMBER {
-        if let Some(status) = take_next(alloc, &mut world, n, reader, source, sink) {
-            return status;
+        match take_next(alloc, &mut world, n, reader, source, sink) {
+            Some(status) => return status,
+            None => n += 1,
         }
-        n += 1;
     }
     end_of(alloc, reader, source)
 }
