@@ -1,9 +1,10 @@
 //! Reading a value from left to right.
-ghost use Rattle.std.specs.Prelude.{◌≡◌, [], map, drop, slice_index_or};
+ghost use Rattle.std.specs.Prelude.{◌≡◌, [], map, drop, slice_index_or, IfOk, OnOk};
 ghost use Rattle.std.specs.Int.{w8, w16, w32, w64};
 ghost use Rattle.byte_fields.specs.Fields.{Gives};
 ghost use Rattle.byte_fields.specs.Complement.{half8, half16, half32, half64};
-ghost use Rattle.gd_variant.specs.Tree.{plain, plain_pair};
+ghost use Rattle.gd_variant.specs.Tree.{Tree, plain, plain_pair};
+ghost use Rattle.variant_codec.specs.Known.{IsKnown, AreKnown};
 ghost use Rattle.gd_variant.specs.declared.message.Why.TheVariants.{RepeatedKey};
 ghost use Rattle.variant_codec.specs.Header.{form_of};
 ghost use Rattle.variant_codec.specs.Readers.{checked_by, list_by};
@@ -14,13 +15,15 @@ use crate::parts::{
     bytes_of, elements_of, fault_at, header_of, i32_of, i64_of, longs_of, raw_of, shorts_of,
     text_of, texts_of, vector_of,
 };
+use crate::writing::put;
 use byte_fields::{ReadError, u8_at, u16_at, u32_at, u64_at};
 use gd_variant::{
-    Bytes, IntRun, IntsOf, NodePath, Opaque, Pair, Pairs, ValueList, Variant, Why,
+    Bytes, IntRun, IntsOf, NodePath, Opaque, OutOfMemory, Pair, Pairs, ValueList, Variant, Why,
     bytes_of_component, bytes_of_element, components_of_code, ints_of_code, same,
 };
 use sqlite_items::Items;
 use std::alloc::Global;
+use std::collections::BTreeSet;
 
 #[tactic(auto, unfolding(crate::specs::Reading::bool_at))]
 fn bool_of(bytes: &[u8]) -> Result<(Variant, &[u8]), ReadError>
@@ -193,6 +196,28 @@ fn is_new(pairs: &[Pair], key: &Variant) -> bool
         }
     }
     true
+}
+
+/// Whether no pair has the key, for pairs whose keys' written forms are in the set; the key's form is
+/// added. Equal keys have one written form, so a form that is new is a new key, and the keys are
+/// compared one by one only where the form is there, as that of a repeated key is.
+fn is_fresh(
+    alloc: Global,
+    seen: &mut BTreeSet<Vec<u8>>,
+    pairs: &[Pair],
+    key: &Variant,
+) -> Result<bool, OutOfMemory>
+    ensures fresh { AreKnown seen.old (map plain_pair pairs.now) → IfOk result (λ fresh. fresh ≡ is_new_to (map plain_pair pairs.now) (plain key.now)) }
+    ensures keeps { OnOk result ((k : Tree) → IsKnown seen.old k → IsKnown seen.new k) }
+    ensures adds { OnOk result (IsKnown seen.new (plain key.now)) }
+{
+    let mut form = Vec::new(alloc);
+    put(key, &mut form)?;
+    if seen.contains(form.as_slice()) {
+        return Ok(is_new(pairs, key));
+    }
+    seen.insert(form)?;
+    Ok(true)
 }
 
 /// So many values.
