@@ -1,5 +1,5 @@
 -- What a line does to a world.
-use Rattle.std.proofs.Common.{◌≡◌, ℕ, ℤ, Bool, true, false, cond, List, [], ◌∷◌, ◌++◌, Option, Some, None, refl, sym, ap, subst, ◌∙◌, ◌↔◌, true≢false}
+use Rattle.std.proofs.Common.{◌≡◌, ℕ, ℤ, Bool, true, false, cond, List, [], ◌∷◌, ◌++◌, Option, Some, None, refl, sym, ap, subst, ◌∙◌, true≢false}
 use Rattle.std.specs.Prelude.{is_some, ◌||◌}
 use Rattle.std.specs.List.{list_any}
 use Rattle.gd_variant.specs.Words.{text_eq}
@@ -18,8 +18,8 @@ use Rattle.mp_world.specs.Steps.{Parts, Made, connect_made, connect_event, spawn
 use Rattle.mp_world.specs.Stands.{Stands}
 use Rattle.mp_replay.specs.declared.lines.PathLine.{PathLine}
 use Rattle.mp_replay.specs.declared.lines.PathLine.TheVariants.{Connect, Spawn, Deliver, Report as AReport}
-use Rattle.mp_replay.specs.Output.{client, event_of, happened_in, is_connect, joined, next_number, report_after, session, text_after, text_by}
-use Rattle.mp_replay.specs.Lines.{path_line, written_line, spawn_read}
+use Rattle.mp_replay.specs.Output.{client, event_of, happened_in, is_connect, joined, next_number, report_after, session, text_by}
+use Rattle.mp_replay.specs.Lines.{path_line, written_line}
 use Rattle.mp_replay.specs.Steps.{Acts, Happens, Ran, answer_by}
 
 -- ---- an event joins the script where it happened

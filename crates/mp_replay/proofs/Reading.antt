@@ -1,17 +1,17 @@
 -- Reading line by line gives the lines of an input.
-use Rattle.std.proofs.Common.{◌≡◌, ℕ, suc, ◌+◌, ◌≤◌, ◌<◌, Bool, true, false, cond, List, [], ◌∷◌, ◌++◌, length, take, drop, Option, Some, None, refl, sym, ap, subst, ◌∙◌, arith}
-use Rattle.std.specs.Prelude.{◌&&◌, not, nat_eq, nat_le, nat_lt}
+use Rattle.std.proofs.Common.{◌≡◌, ℕ, suc, ◌+◌, ◌≤◌, ◌<◌, Bool, true, false, cond, List, [], ◌∷◌, length, Some, None, refl, sym, ap, subst, ◌∙◌, arith}
+use Rattle.std.specs.Prelude.{not, nat_eq, nat_le, nat_lt}
 use Rattle.std.specs.List.{position_or_len, before_first, after_first, list_any}
-use Rattle.std.proofs.lemmas.Bool.{and_parts, le-leb, leb-true, lt-leb, ltb-true, ltb-false}
+use Rattle.std.proofs.lemmas.Bool.{and_parts, le-leb, lt-leb, ltb-true, ltb-false}
 use Rattle.std.proofs.Math.Bool.{and-false}
 use Rattle.std.proofs.lemmas.List.{length-take}
 use Rattle.std.proofs.lemmas.List.Sums.{prefix_len-le-length}
 use Rattle.gd_variant.specs.Words.{text_eq}
-use Rattle.session_text.specs.Lines.{is_line_feed, FirstLine, first_line}
+use Rattle.session_text.specs.Lines.{is_line_feed, first_line}
 use Rattle.session_text.specs.Lines.FirstLine.{a_line, too_long, no_line}
 use Rattle.mp_replay.specs.declared.lines.PathLine.{PathLine}
 use Rattle.mp_replay.specs.Lines.{path_line}
-use Rattle.mp_replay.specs.Output.{Read, before_all, is_connect, last_number, line_after, lines_in, longest, next_number, read_all, read_by, read_on, scene_line}
+use Rattle.mp_replay.specs.Output.{before_all, is_connect, line_after, lines_in, next_number, read_all, read_by, read_on, scene_line}
 
 one_more : (n : ℕ) → 1 + n ≡ suc n
 one_more n = omega arith
@@ -47,7 +47,6 @@ by_feed b bs false e h = let c = cut_later is_line_feed b bs e in lines_later b 
 pub first_and_rest : (b : ℕ) (bs : List ℕ) → lines_in (b ∷ bs) ≡ cut_into (before_first is_line_feed (b ∷ bs)) (after_first is_line_feed (b ∷ bs))
 first_and_rest b [] = by_feed b [] (is_line_feed b) refl refl
 first_and_rest b (c ∷ cs) = by_feed b (c ∷ cs) (is_line_feed b) refl (ap (before_all b) (first_and_rest c cs))
-
 
 -- ---- the first line of a reader
 

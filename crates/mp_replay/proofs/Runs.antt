@@ -1,13 +1,13 @@
 -- What a run has done so far, from line to line.
-use Rattle.std.proofs.Common.{◌≡◌, ℕ, suc, ◌+◌, ◌≤◌, List, [], ◌∷◌, ◌++◌, length, Option, Some, None, refl, sym, ap, subst, ◌∙◌, arith}
+use Rattle.std.proofs.Common.{◌≡◌, ℕ, ◌+◌, ◌≤◌, List, [], ◌∷◌, ◌++◌, Option, Some, None, refl, sym, ap, subst, ◌∙◌, arith}
 use Rattle.std.specs.Prelude.{is_some}
 use Rattle.session_text.specs.Lines.{Reader, fresh, unread}
 use Rattle.session_text.specs.declared.status.Status.{Status}
 use Rattle.mp_world.specs.Steps.{Parts}
 use Rattle.mp_world.specs.Stands.{Stands}
 use Rattle.mp_replay.specs.declared.lines.PathLine.{PathLine}
-use Rattle.mp_replay.specs.Output.{EndsAs, lines_in, next_number, read_all, read_in, read_on, text_of}
-use Rattle.mp_replay.specs.Steps.{EndsReading, Kept, Ran, ReadsScene, SceneRead, Steps}
+use Rattle.mp_replay.specs.Output.{EndsAs, lines_in, next_number, read_in, read_on, text_of}
+use Rattle.mp_replay.specs.Steps.{EndsReading, Kept, Ran, SceneRead, Steps}
 use Rattle.mp_replay.proofs.Written.{all_behind, nothing, reads_behind}
 use Rattle.mp_replay.proofs.Taken.{ends_after}
 

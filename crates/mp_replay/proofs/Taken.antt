@@ -1,6 +1,5 @@
 -- What a run makes of each line, and how it ends.
-use Rattle.std.proofs.Common.{◌≡◌, ℕ, ◌≤◌, ◌<◌, ◌+◌, Bool, true, false, List, [], ◌∷◌, ◌++◌, take, Option, Some, None, Ok, Err, refl, sym, ap, subst, ◌∙◌, arith}
-use Rattle.std.specs.List.{list_any}
+use Rattle.std.proofs.Common.{◌≡◌, ℕ, ◌≤◌, true, false, List, [], ◌++◌, take, Option, Some, None, Ok, refl, sym, ap, subst, ◌∙◌, arith}
 use Rattle.gd_variant.specs.Words.{text_eq}
 use Rattle.session_text.specs.Lines.{ReadsLine, first_line}
 use Rattle.session_text.specs.Lines.FirstLine.{a_line, too_long, no_line}
@@ -14,8 +13,8 @@ use Rattle.session_text.specs.declared.status.Status.TheVariants as status
 use Rattle.mp_world.specs.Steps.{Parts}
 use Rattle.mp_replay.specs.declared.lines.PathLine.{PathLine}
 use Rattle.mp_replay.specs.Ends.{read_end}
-use Rattle.mp_replay.specs.Output.{EndsAs, Read, SomeBytes, WholeLines, lines_in, next_number, read_all, read_on, scene_line, text_after, text_of}
-use Rattle.mp_replay.specs.Steps.{Acted, Broke, EndsReading, Kept, Put, PutsText, Ran, ReadsScene, SceneRead, StepOn, Steps, Stopped, TakesLine}
+use Rattle.mp_replay.specs.Output.{EndsAs, Read, lines_in, next_number, read_all, read_on, scene_line, text_after, text_of}
+use Rattle.mp_replay.specs.Steps.{Acted, EndsReading, PutsText, SceneRead, Steps, TakesLine}
 use Rattle.mp_replay.proofs.Reading.{scene_read, other_scene, long_scene, no_scene, line_stops, line_goes_on, long_stops, end_stops, late_stops}
 use Rattle.mp_replay.proofs.Written.{Behind, put_more, reads_behind, whole_lines, some_bytes}
 

@@ -2,7 +2,7 @@
 use Rattle.std.proofs.Common.{◌≡◌, ℕ, List, [], ◌∷◌, ◌++◌, take, drop, Option, Some, None, refl, sym, ap, ◌∙◌}
 use Rattle.std.proofs.lemmas.List.{take-append-drop}
 use Rattle.mp_replay.specs.declared.lines.PathLine.{PathLine}
-use Rattle.mp_replay.specs.Output.{Read, WholeLines, SomeBytes, line_after, next_number, read_by, read_on, text_after, text_of}
+use Rattle.mp_replay.specs.Output.{Read, WholeLines, SomeBytes, line_after, read_by, read_on, text_after, text_of}
 
 append_nil : {X : Type 0} (xs : List X) → xs ≡ xs ++ []
 append_nil [] = refl

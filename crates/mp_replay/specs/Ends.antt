@@ -1,5 +1,5 @@
 -- How a run ends, and when a fault of the source or the sink may come.
-use Rattle.std.specs.Prelude.{◌≡◌, ℕ, Bool, true, false, List, [], ◌∷◌, String, string_bytes, codes}
+use Rattle.std.specs.Prelude.{◌≡◌, ℕ, Bool, false, List, [], ◌∷◌, String, string_bytes, codes}
 use Rattle.std.specs.declared.alloc.Global.{Global}
 use Rattle.gd_variant.specs.Words.{text_eq}
 use Rattle.session_text.specs.Causes.{Rose}

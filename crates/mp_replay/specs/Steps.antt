@@ -15,7 +15,7 @@ use Rattle.mp_replay.specs.declared.lines.PathLine.{PathLine}
 use Rattle.mp_replay.specs.declared.replay.LineStop.{LineStop}
 use Rattle.mp_replay.specs.declared.replay.LineStop.TheVariants as line_stop
 use Rattle.mp_replay.specs.Lines.{path_line}
-use Rattle.mp_replay.specs.Output.{Read, event_of, happened_in, is_connect, lines_in, next_number, read_on, read_all, session, text_after, text_of, EndsAs}
+use Rattle.mp_replay.specs.Output.{Read, event_of, happened_in, is_connect, lines_in, next_number, read_on, session, text_after, text_of, EndsAs}
 
 -- a world after lines
 pub record Ran (w : Parts) (ls : List PathLine) : Type 0 where

@@ -1,4 +1,4 @@
-use Rattle.std.proofs.Common.{◌<◌, length, refl, arith, slice_index_or}
+use Rattle.std.proofs.Common.{refl, arith, slice_index_or}
 use Rattle.mp_replay.proofs.Digits.{digit_more}
 use Rattle.mp_replay.proofs.lines.value_of.Goals as goal
 

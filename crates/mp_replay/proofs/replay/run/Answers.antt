@@ -1,6 +1,6 @@
 use Rattle.mp_replay.specs.Output.{read_in}
 use Rattle.mp_replay.proofs.Written.{all_behind, nothing, whole_lines}
-use Rattle.mp_replay.proofs.Runs.{unread_fresh, scene_ends, scene_goes_on}
+use Rattle.mp_replay.proofs.Runs.{unread_fresh, scene_ends}
 use Rattle.mp_replay.proofs.replay.run.Goals as goal
 
 pub returns-in-Err-clause-output : goal.returns-in-Err-clause-output

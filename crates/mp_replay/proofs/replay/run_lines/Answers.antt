@@ -1,4 +1,4 @@
-use Rattle.std.proofs.Common.{◌≡◌, ◌≤◌, arith}
+use Rattle.std.proofs.Common.{arith}
 use Rattle.session_text.specs.Lines.{unread}
 use Rattle.mp_replay.proofs.Runs.{kept_first, kept_on, kept_ends, kept_last}
 use Rattle.mp_replay.proofs.replay.run_lines.Goals as goal
