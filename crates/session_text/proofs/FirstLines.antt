@@ -146,8 +146,7 @@ a_line-parts most [] l rest e = absurd (cc)
 a_line-parts most (x ∷ xs) l rest e =
     let place : ℕ = position_or_len is_line_feed (x ∷ xs) in
     let parts = split_by (nat_lt most place) (before_first is_line_feed (x ∷ xs)) (after_first is_line_feed (x ∷ xs)) l rest e in
-    let within : place ≤ most = ltb-false most place parts.0 in
-    (
+    let within : place ≤ most = ltb-false most place parts.0 in (
       omega (arith, ap length parts.1, length-take place (x ∷ xs)),
       omega (arith, ap length parts.2, length-drop (place + 1) (x ∷ xs)),
       sym parts.1,

@@ -1,3 +1,6 @@
 pub mod Pieces
 pub mod Prefixes
 pub mod FirstLines
+pub mod Floats
+pub mod Pushed
+pub mod Nested

@@ -2,3 +2,8 @@ pub mod Causes
 pub mod Pieces
 pub mod Lines
 pub mod Statuses
+pub mod Json
+pub mod Values
+pub mod Reasons
+pub mod Outcomes
+pub mod Reports

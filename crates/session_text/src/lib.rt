@@ -1,18 +1,25 @@
 //! The edge of the program: where bytes come from and go to, lines, and how a run ends.
 #![tactic(auto)]
 
+mod json;
 mod lines;
 mod memory;
+mod outcomes;
 mod process;
+mod reasons;
+mod reports;
 mod sink;
 mod source;
 mod status;
 #[cfg(test)]
 mod tests;
+mod values;
 
 pub use lines::{LineReader, NextLine, PIECE, ReadStop};
 pub use memory::{MemSink, MemSource, SureSink, SureSource};
+pub use outcomes::outcome_text;
 pub use process::{StdSink, StdSource};
+pub use reports::report_text;
 pub use sink::{Sink, put_all};
 pub use source::{Failed, Source};
 pub use status::{LineWhy, Status};
