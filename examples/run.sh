@@ -12,7 +12,7 @@ session=$(realpath -- "${1:-$here/first.session}") || exit 2
 if [ -x "$program" ]; then
     exec "$program" replay < "$session"
 fi
-echo "no proved program stands yet ('rt ci' makes it): this is a run of an unproved one" >&2
+echo "no proved program stands yet ('rt ci' makes it): this is a run of an unproved one, which takes about a minute to make" >&2
 errors=$(mktemp)
 trap 'rm -f "$errors"' EXIT
 (cd "$crate" && rt try -- replay) < "$session" 2> "$errors"

@@ -13,3 +13,4 @@ pub mod Small
 pub mod Spelled
 pub mod Forms
 pub mod Top
+pub mod KnownKeys

@@ -6,3 +6,4 @@ pub mod Readers
 pub mod Reading
 pub mod Breaks
 pub mod Clauses
+pub mod Known

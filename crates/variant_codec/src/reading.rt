@@ -1,9 +1,10 @@
 //! Reading a value from left to right.
-ghost use Rattle.std.specs.Prelude.{◌≡◌, [], map, drop, slice_index_or};
+ghost use Rattle.std.specs.Prelude.{◌≡◌, [], ◌∷◌, ◌++◌, map, drop, slice_index_or, IfOk, OnOk};
 ghost use Rattle.std.specs.Int.{w8, w16, w32, w64};
 ghost use Rattle.byte_fields.specs.Fields.{Gives};
 ghost use Rattle.byte_fields.specs.Complement.{half8, half16, half32, half64};
-ghost use Rattle.gd_variant.specs.Tree.{plain, plain_pair};
+ghost use Rattle.gd_variant.specs.Tree.{Tree, plain, plain_pair};
+ghost use Rattle.variant_codec.specs.Known.{IsKnown, AreKnown};
 ghost use Rattle.gd_variant.specs.declared.message.Why.TheVariants.{RepeatedKey};
 ghost use Rattle.variant_codec.specs.Header.{form_of};
 ghost use Rattle.variant_codec.specs.Readers.{checked_by, list_by};
@@ -14,13 +15,18 @@ use crate::parts::{
     bytes_of, elements_of, fault_at, header_of, i32_of, i64_of, longs_of, raw_of, shorts_of,
     text_of, texts_of, vector_of,
 };
+use crate::writing::put;
 use byte_fields::{ReadError, u8_at, u16_at, u32_at, u64_at};
 use gd_variant::{
-    Bytes, IntRun, IntsOf, NodePath, Opaque, Pair, Pairs, ValueList, Variant, Why,
+    Bytes, IntRun, IntsOf, NodePath, Opaque, OutOfMemory, Pair, Pairs, ValueList, Variant, Why,
     bytes_of_component, bytes_of_element, components_of_code, ints_of_code, same,
 };
 use sqlite_items::Items;
 use std::alloc::Global;
+use std::collections::BTreeSet;
+
+/// A dictionary of at most so many pairs compares each key with each.
+const FEW_PAIRS: u32 = 16;
 
 #[tactic(auto, unfolding(crate::specs::Reading::bool_at))]
 fn bool_of(bytes: &[u8]) -> Result<(Variant, &[u8]), ReadError>
@@ -195,6 +201,28 @@ fn is_new(pairs: &[Pair], key: &Variant) -> bool
     true
 }
 
+/// Whether no pair has the key, for pairs whose keys' written forms are in the set; the key's form is
+/// added. Equal keys have one written form, so a form that is new is a new key, and the keys are
+/// compared one by one only where the form is there, as that of a repeated key is.
+fn is_fresh(
+    alloc: Global,
+    seen: &mut BTreeSet<Vec<u8>>,
+    pairs: &[Pair],
+    key: &Variant,
+) -> Result<bool, OutOfMemory>
+    ensures fresh { AreKnown seen.old (map plain_pair pairs.now) → IfOk result (λ fresh. fresh ≡ is_new_to (map plain_pair pairs.now) (plain key.now)) }
+    ensures keeps { OnOk result ((k : Tree) → IsKnown seen.old k → IsKnown seen.new k) }
+    ensures adds { OnOk result (IsKnown seen.new (plain key.now)) }
+{
+    let mut form = Vec::new(alloc);
+    put(key, &mut form)?;
+    if seen.contains(form.as_slice()) {
+        return Ok(is_new(pairs, key));
+    }
+    seen.insert(form)?;
+    Ok(true)
+}
+
 /// So many values.
 #[cycle(reading)]
 fn items_of(
@@ -257,9 +285,9 @@ fn pair_of<'a>(
     Ok((Pair { key, value }, rest))
 }
 
-/// So many pairs.
+/// So few pairs that each key is compared with each.
 #[cycle(reading)]
-fn pairs_of(
+fn few_pairs_of(
     alloc: Global,
     levels: u32,
     count: u32,
@@ -275,6 +303,81 @@ fn pairs_of(
         rest = after;
     }
     Ok((items, rest))
+}
+
+/// A key that none of the pairs has, for pairs whose keys' written forms are in the set.
+#[cycle(reading)]
+fn fresh_key_of<'a>(
+    alloc: Global,
+    levels: u32,
+    seen: &mut BTreeSet<Vec<u8>>,
+    before: &[Pair],
+    bytes: &'a [u8],
+) -> Result<(Variant, &'a [u8]), ReadError>
+    ensures gives { AreKnown seen.old (map plain_pair before.now) → Gives (λ x. (plain x.0, x.1.now)) result (checked_by (is_new_to (map plain_pair before.now)) RepeatedKey (value_at levels) bytes.now) }
+    ensures keeps { IfOk result (λ x. (k : Tree) → IsKnown seen.old k → IsKnown seen.new k) }
+    ensures adds { IfOk result (λ x. IsKnown seen.new (plain x.0)) }
+{
+    let (key, rest) = value_of(alloc, levels, bytes)?;
+    if !is_fresh(alloc, seen, before, &key)? {
+        return Err(fault_at(bytes, Why::RepeatedKey));
+    }
+    Ok((key, rest))
+}
+
+#[cycle(reading)]
+#[tactic(auto, unfolding(crate::specs::Reading::pair_by))]
+fn fresh_pair_of<'a>(
+    alloc: Global,
+    levels: u32,
+    seen: &mut BTreeSet<Vec<u8>>,
+    before: &[Pair],
+    bytes: &'a [u8],
+) -> Result<(Pair, &'a [u8]), ReadError>
+    ensures gives { AreKnown seen.old (map plain_pair before.now) → Gives (λ x. (plain_pair x.0, x.1.now)) result (pair_by (value_at levels) (map plain_pair before.now) bytes.now) }
+    ensures knows { IfOk result (λ x. AreKnown seen.old (map plain_pair before.now) → AreKnown seen.new (map plain_pair before.now ++ plain_pair x.0 ∷ [])) }
+{
+    let (key, rest) = fresh_key_of(alloc, levels, seen, before, bytes)?;
+    let (value, rest) = value_of(alloc, levels, rest)?;
+    Ok((Pair { key, value }, rest))
+}
+
+/// So many pairs that their keys are told apart by a set of their written forms.
+#[cycle(reading)]
+fn many_pairs_of(
+    alloc: Global,
+    levels: u32,
+    count: u32,
+    bytes: &[u8],
+) -> Result<(Pairs, &[u8]), ReadError>
+    ensures { Gives (λ x. (map plain_pair x.0, x.1.now)) result (list_by (pair_by (value_at levels)) [] count bytes.now) }
+{
+    let mut items = Items::new(alloc);
+    let mut seen = BTreeSet::new(alloc);
+    let mut rest = bytes;
+    for _ in 0..count {
+        let (item, after) = fresh_pair_of(alloc, levels, &mut seen, items.as_slice(), rest)?;
+        items.push(item)?;
+        rest = after;
+    }
+    Ok((items, rest))
+}
+
+/// So many pairs.
+#[cycle(reading)]
+fn pairs_of(
+    alloc: Global,
+    levels: u32,
+    count: u32,
+    bytes: &[u8],
+) -> Result<(Pairs, &[u8]), ReadError>
+    ensures { Gives (λ x. (map plain_pair x.0, x.1.now)) result (list_by (pair_by (value_at levels)) [] count bytes.now) }
+{
+    if count <= FEW_PAIRS {
+        few_pairs_of(alloc, levels, count, bytes)
+    } else {
+        many_pairs_of(alloc, levels, count, bytes)
+    }
 }
 
 #[cycle(reading)]

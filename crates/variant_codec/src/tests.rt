@@ -308,3 +308,36 @@ fn every_front_is_short(rt: HostRuntime) {
         );
     }
 }
+
+/// A dictionary of so many pairs of a number and Nil; the last key is given.
+fn numbered(alloc: Global, pairs: u16, last: u16) -> Option<Vec<u8>> {
+    let mut bytes = Vec::new(alloc);
+    bytes.extend_from_slice(&[27, 0, 0, 0]).ok()?;
+    bytes
+        .extend_from_slice(&u32::from(pairs).to_le_bytes())
+        .ok()?;
+    for key in 0..pairs {
+        let key = if key + 1 < pairs { key } else { last };
+        bytes.extend_from_slice(&[2, 0, 0, 0]).ok()?;
+        bytes.extend_from_slice(&u32::from(key).to_le_bytes()).ok()?;
+        bytes.extend_from_slice(&[0, 0, 0, 0]).ok()?;
+    }
+    Some(bytes)
+}
+
+#[test]
+fn many_keys(rt: HostRuntime) -> Result<(), Fail> {
+    let distinct = numbered(rt.alloc(), 300, 299).ok_or("there is memory")?;
+    let (len, out) = again(rt.alloc(), &distinct).ok_or("the keys differ")?;
+    assert_eq!(rt; len, distinct.len());
+    assert_eq!(rt; out.as_slice(), distinct.as_slice());
+    let repeated = numbered(rt.alloc(), 300, 7).ok_or("there is memory")?;
+    assert!(rt;
+        fault_of(rt.alloc(), &repeated)
+            == Some(Bad {
+                at: 3596,
+                why: Why::RepeatedKey
+            })
+    );
+    Ok(())
+}

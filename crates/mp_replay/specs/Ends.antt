@@ -1,0 +1,29 @@
+-- How a run ends, and when a fault of the source or the sink may come.
+use Rattle.std.specs.Prelude.{◌≡◌, ℕ, Bool, true, false, List, [], ◌∷◌, String, string_bytes, codes}
+use Rattle.std.specs.declared.alloc.Global.{Global}
+use Rattle.gd_variant.specs.Words.{text_eq}
+use Rattle.session_text.specs.Causes.{Rose}
+use Rattle.session_text.specs.declared.lines.ReadStop.{ReadStop}
+use Rattle.session_text.specs.declared.lines.ReadStop.TheVariants as read
+use Rattle.session_text.specs.declared.status.LineWhy.TheVariants as why
+use Rattle.session_text.specs.declared.status.Status.{Status}
+use Rattle.session_text.specs.declared.status.Status.TheVariants as status
+
+-- the words of the first path
+abbrev pub is_replay : List (String Global) → Bool
+is_replay (w ∷ []) = text_eq (string_bytes w) (codes "replay")
+is_replay ws = false
+
+-- how a run ends where a line can't be read
+abbrev pub read_end : ReadStop → Status
+read_end read.Failed = status.ReadFault
+read_end read.OutOfMemory = status.OutOfMemory
+
+-- how a run of these words may end: a fault comes only where the count of the source or of the sink rose from the first number to the second
+abbrev pub MayEnd : ℕ → ℕ → ℕ → ℕ → Status → Type 0
+MayEnd source later sink after status.Done = Unit {0}
+MayEnd source later sink after (status.BadLine n reason) = reason ≡ why.NotBuilt
+MayEnd source later sink after status.ReadFault = Rose source later
+MayEnd source later sink after status.WriteFault = Rose sink after
+MayEnd source later sink after status.OutOfMemory = Unit {0}
+MayEnd source later sink after s = ⊥

@@ -1,0 +1,13 @@
+use Rattle.std.proofs.Common.{List, ℕ, ◌++◌, map, ap, ◌∙◌}
+use Rattle.gd_variant.specs.Tree.{plain, plain_pair}
+use Rattle.variant_codec.specs.Written.{written}
+use Rattle.variant_codec.proofs.KnownKeys.{fresh_is, known_kept}
+use Rattle.variant_codec.proofs.reading.is_fresh.Goals as goal
+
+pub returns-clause-fresh : goal.returns-clause-fresh
+returns-clause-fresh c =
+    fresh_is c.args.seen.now (map plain_pair c.args.pairs.now) (plain c.args.key.now) c.as_slice.result.now c.contains.result
+    (c.as_slice.ensures.value ∙ c.in_ok-put.ensures ∙ ap (λ (l : List ℕ). l ++ written (plain c.args.key.now)) c.new-form.ensures.items) c.contains.ensures c.if-contains.false
+
+pub returns-clause-keeps : goal.returns-clause-keeps
+returns-clause-keeps c = λ k h. known_kept c.args.seen.now c.insert.new.self _ c.put.new.out k c.in_ok-insert.ensures.keys h
