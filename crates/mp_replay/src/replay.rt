@@ -275,6 +275,20 @@ fn run_lines<S: Source, K: Sink>(
 }
 
 /// Does what the words ask for. They are those of the command line, without the program's name.
+///
+/// The one word `replay` reads a session from the source, line by line, and writes to the sink what
+/// each line does and what each report holds, before it reads on. Line 1 is the scene. The
+/// lines behind it are a connect (at most one), spawns at the server, deliveries to the client and
+/// reports of the client; `docs/GUIDE.md` has each of them. A line has at most 256 bytes, and there
+/// are at most 64.
+///
+/// - `Done`: the session was read to its end, and all that it writes was written.
+/// - `Usage`: other words. Nothing is read or written.
+/// - `BadLine`: the first line that isn't so, by its number. What the lines before it write was
+///   written, and nothing behind it is judged.
+/// - `ReadFault`, `WriteFault`: the source or the sink failed in this call. Whole lines, or some of
+///   the first bytes, were written.
+/// - `OutOfMemory`: whole lines were written.
 pub fn run<S: Source, K: Sink>(
     alloc: Global,
     words: &[String],
