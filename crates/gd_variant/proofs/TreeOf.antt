@@ -1,11 +1,14 @@
 -- The plain tree of a value determines the value.
-use Rattle.std.proofs.Common.{◌≡◌, List, [], ◌∷◌, map, refl, sym, ap, ap₂, subst, ◌∙◌}
+use Rattle.std.proofs.Common.{◌≡◌, true, List, [], ◌∷◌, map, refl, sym, ap, ap₂, subst, ◌∙◌}
+use Rattle.std.proofs.lemmas.Bool.{and_parts}
 use Rattle.gd_variant.specs.declared.value.Variant.{Variant}
 use Rattle.gd_variant.specs.declared.value.Pair.{Pair}
 use Rattle.gd_variant.specs.declared.value.Variant.TheFolds.{ind-Variant, map-Variant, map-Pair, fold-Pair, fold-roll-Variant, fold_out-Pair, fold-roll-Pair}
 use Rattle.gd_variant.specs.declared.value.Variant.TheViews.{roll-Variant, roll-Pair}
 use Rattle.gd_variant.specs.declared.value.Variant.TheVariants.{Nil, Bool as Boolean, Int, Text, Name, Path, Ints, Opaque, Dict, Array, PackedBytes, PackedInts, PackedTexts, rolls-Nil, rolls-Bool, rolls-Int, rolls-Text, rolls-Name, rolls-Path, rolls-Ints, rolls-Opaque, rolls-Dict, rolls-Array, rolls-PackedBytes, rolls-PackedInts, rolls-PackedTexts}
 use Rattle.gd_variant.specs.declared.value.Variant.TheOpen.{Variant-F, Pair-F}
+use Rattle.gd_variant.specs.Back.{value_of, values_from, pairs_from, pair_of}
+use Rattle.gd_variant.specs.Sound.{is_right, are_right, keys_distinct, is_new_key}
 use Rattle.gd_variant.specs.Tree.{Tree, Trees, nil, boolean, int, text, name, path, ints, opaque, dict, array, packed_bytes, packed_ints, packed_texts, none, item, trees_of, PairTree, pairs_of, tree_step, pair_step, inner_tree, plain, plains, plain_pair, plain_pairs}
 
 -- a pair inside a dictionary, its values seen as trees
@@ -48,34 +51,6 @@ plain_array vs = plain_is (Array vs) ∙ sym (at_layer (Array vs) (Variant-F.Arr
 
 -- ---- back from a tree to its value
 
-abbrev mutual
-  value_of : Tree → Variant
-  value_of nil = roll-Variant Variant-F.Nil
-  value_of (boolean b) = roll-Variant (Variant-F.Bool b)
-  value_of (int z) = roll-Variant (Variant-F.Int z)
-  value_of (text t) = roll-Variant (Variant-F.Text t)
-  value_of (name t) = roll-Variant (Variant-F.Name t)
-  value_of (path a ns ss) = roll-Variant (Variant-F.Path (record { absolute = a; names = ns; subnames = ss }))
-  value_of (ints c zs) = roll-Variant (Variant-F.Ints (record { code = c; items = zs }))
-  value_of (opaque c w bs) = roll-Variant (Variant-F.Opaque (record { code = c; wide = w; bytes = bs }))
-  value_of (dict ts) = roll-Variant (Variant-F.Dict (pairs_from ts))
-  value_of (array ts) = roll-Variant (Variant-F.Array (values_from ts))
-  value_of (packed_bytes bs) = roll-Variant (Variant-F.PackedBytes bs)
-  value_of (packed_ints w zs) = roll-Variant (Variant-F.PackedInts (record { wide = w; items = zs }))
-  value_of (packed_texts ts) = roll-Variant (Variant-F.PackedTexts ts)
-
-  values_from : Trees → List Variant
-  values_from none = []
-  values_from (item t ts) = value_of t ∷ values_from ts
-
-  pairs_from : Trees → List Pair
-  pairs_from none = []
-  pairs_from (item k none) = []
-  pairs_from (item k (item v ts)) = roll-Pair (record { key = value_of k; value = value_of v }) ∷ pairs_from ts
-
-abbrev pair_of : PairTree → Pair
-pair_of p = roll-Pair (record { key = value_of p.key; value = value_of p.value })
-
 values_back : {A : Type 0} (f : A → Variant) → ((a : A) → value_of (inner_tree (f a)) ≡ f a) → (xs : List A) → values_from (trees_of (map inner_tree (map f xs))) ≡ map f xs
 values_back f each [] = refl
 values_back f each (a ∷ xs) = ap₂ (λ (v : Variant) (vs : List Variant). v ∷ vs) (each a) (values_back f each xs)
@@ -106,9 +81,52 @@ inner_back = ind-Variant (λ v. value_of (inner_tree v) ≡ v) (λ p. pair_of (i
     (λ x y is. subst (λ z. pair_of (inner_pair (roll-Pair z)) ≡ roll-Pair z) is
     (ap pair_of (inner_pair_layer _) ∙ pair_back (λ e. e.0) (λ e. e.0) (λ e. e.1) y))
 
-plain_back : (v : Variant) → value_of (plain v) ≡ v
+-- a value is that of its tree
+pub plain_back : (v : Variant) → value_of (plain v) ≡ v
 plain_back v = ap value_of (plain_is v) ∙ inner_back v
 
 -- values with one tree are one value
 pub plain_same : (v w : Variant) → plain v ≡ plain w → v ≡ w
 plain_same v w e = sym (plain_back v) ∙ ap value_of e ∙ plain_back w
+
+-- ---- from a value to its tree
+
+inner_pair_there : (k v : Tree) → inner_tree (value_of k) ≡ k → inner_tree (value_of v) ≡ v → (qs : List PairTree) (ts : Trees) → pairs_of qs ≡ ts
+    → pairs_of (inner_pair (pair_of (record { key = k; value = v })) ∷ qs) ≡ item k (item v ts)
+inner_pair_there k v hk hv qs ts e =
+    ap (λ (p : PairTree). pairs_of (p ∷ qs)) (inner_pair_layer (record { key = value_of k; value = value_of v }))
+    ∙ ap₂ (λ (x : Tree) (y : Tree). item x (item y (pairs_of qs))) hk hv
+    ∙ ap (λ (us : Trees). item k (item v us)) e
+
+mutual
+  inner_there : (t : Tree) → is_right t ≡ true → inner_tree (value_of t) ≡ t
+  inner_there nil h = inner_layer _
+  inner_there (boolean b) h = inner_layer _
+  inner_there (int z) h = inner_layer _
+  inner_there (text t) h = inner_layer _
+  inner_there (name t) h = inner_layer _
+  inner_there (path a ns ss) h = inner_layer _
+  inner_there (ints c zs) h = inner_layer _
+  inner_there (opaque c w bs) h = inner_layer _
+  inner_there (dict ts) h = let p = and_parts (keys_distinct ts) (are_right ts) h in inner_layer _ ∙ ap dict (pairs_there ts p.0 p.1)
+  inner_there (array ts) h = inner_layer _ ∙ ap array (values_there ts h)
+  inner_there (packed_bytes bs) h = inner_layer _
+  inner_there (packed_ints w zs) h = inner_layer _
+  inner_there (packed_texts ts) h = inner_layer _
+
+  values_there : (ts : Trees) → are_right ts ≡ true → trees_of (map inner_tree (values_from ts)) ≡ ts
+  values_there none h = refl
+  values_there (item t ts) h = let p = and_parts (is_right t) (are_right ts) h in ap₂ item (inner_there t p.0) (values_there ts p.1)
+
+  pairs_there : (ts : Trees) → keys_distinct ts ≡ true → are_right ts ≡ true → pairs_of (map inner_pair (pairs_from ts)) ≡ ts
+  pairs_there none d h = refl
+  pairs_there (item k none) d h = absurd cc
+  pairs_there (item k (item v ts)) d h =
+      let p = and_parts (is_right k) (are_right (item v ts)) h in
+      let q = and_parts (is_right v) (are_right ts) p.1 in
+      let e = and_parts (is_new_key k ts) (keys_distinct ts) d in
+      inner_pair_there k v (inner_there k p.0) (inner_there v q.0) (map inner_pair (pairs_from ts)) ts (pairs_there ts e.1 q.1)
+
+-- a right tree is that of its value
+pub plain_there : (t : Tree) → is_right t ≡ true → plain (value_of t) ≡ t
+plain_there t h = plain_is (value_of t) ∙ inner_there t h

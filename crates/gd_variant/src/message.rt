@@ -104,8 +104,6 @@ pub enum Why {
     Trailing,
     Nested,
     TooLong,
-    /// The packet is of a kind that isn't built yet.
-    NotBuilt,
 }
 
 /// The first wrong field of some bytes: where it begins, counted from the start of the input, and why

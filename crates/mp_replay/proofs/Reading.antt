@@ -4,11 +4,12 @@ use Rattle.std.specs.Prelude.{not, nat_eq, nat_le, nat_lt}
 use Rattle.std.specs.List.{position_or_len, before_first, after_first, list_any}
 use Rattle.std.proofs.lemmas.Bool.{and_parts, le-leb, lt-leb, ltb-true, ltb-false}
 use Rattle.std.proofs.Math.Bool.{and-false}
-use Rattle.std.proofs.lemmas.List.{length-take}
+use Rattle.std.proofs.lemmas.List.{length-take, take_all, drop_all}
 use Rattle.std.proofs.lemmas.List.Sums.{prefix_len-le-length}
 use Rattle.gd_variant.specs.Words.{text_eq}
-use Rattle.session_text.specs.Lines.{is_line_feed, first_line}
-use Rattle.session_text.specs.Lines.FirstLine.{a_line, too_long, no_line}
+use Rattle.session_text.specs.Lines.{FirstLine, is_line_feed, first_line}
+use Rattle.session_text.specs.Lines.FirstLine.{a_line, last_line, too_long, no_line}
+use Rattle.session_text.proofs.FirstLines.{last_line-parts, no_line-empty}
 use Rattle.mp_replay.specs.declared.lines.PathLine.{PathLine}
 use Rattle.mp_replay.specs.Lines.{path_line}
 use Rattle.mp_replay.specs.Output.{before_all, is_connect, line_after, lines_in, next_number, read_all, read_by, read_on, scene_line}
@@ -58,9 +59,13 @@ pub record FirstIs (bytes l rest : List ℕ) : Type 0 where
   pub lines : lines_in bytes ≡ cut_into l rest
   pub short : length l ≤ 256
 
-line_by : (t : Bool) (bs l rest : List ℕ) → nat_lt 256 (position_or_len is_line_feed bs) ≡ t → lines_in bs ≡ cut_into (before_first is_line_feed bs) (after_first is_line_feed bs) → cond t too_long (a_line (before_first is_line_feed bs) (after_first is_line_feed bs)) ≡ a_line l rest → FirstIs bs l rest
-line_by true bs l rest e f h = absurd cc
-line_by false bs l rest e f h =
+abbrev first_by : Bool → Bool → List ℕ → FirstLine
+first_by long fed bs = cond long too_long (cond fed (a_line (before_first is_line_feed bs) (after_first is_line_feed bs)) (last_line bs))
+
+line_by : (t u : Bool) (bs l rest : List ℕ) → nat_lt 256 (position_or_len is_line_feed bs) ≡ t → lines_in bs ≡ cut_into (before_first is_line_feed bs) (after_first is_line_feed bs) → first_by t u bs ≡ a_line l rest → FirstIs bs l rest
+line_by true u bs l rest e f h = absurd cc
+line_by false false bs l rest e f h = absurd cc
+line_by false true bs l rest e f h =
     let is : before_first is_line_feed bs ≡ l = cc in
     let left : after_first is_line_feed bs ≡ rest = cc in
     record { lines = subst (λ x. lines_in bs ≡ cut_into x rest) is (subst (λ y. lines_in bs ≡ cut_into (before_first is_line_feed bs) y) left f); short = subst (λ x. length x ≤ 256) is (before_length bs e) }
@@ -68,7 +73,24 @@ line_by false bs l rest e f h =
 pub at_line : (bytes l rest : List ℕ) → first_line 256 bytes ≡ a_line l rest → FirstIs bytes l rest
 unfolding first_line
 at_line [] l rest h = absurd cc
-at_line (b ∷ bs) l rest h = line_by (nat_lt 256 (position_or_len is_line_feed (b ∷ bs))) (b ∷ bs) l rest refl (first_and_rest b bs) h
+at_line (b ∷ bs) l rest h = line_by (nat_lt 256 (position_or_len is_line_feed (b ∷ bs))) (nat_lt (position_or_len is_line_feed (b ∷ bs)) (length (b ∷ bs))) (b ∷ bs) l rest refl (first_and_rest b bs) h
+
+-- all bytes, where no line feed stands in them
+all_before : (bs : List ℕ) → position_or_len is_line_feed bs ≡ length bs → (before_first is_line_feed bs ≡ bs) × (after_first is_line_feed bs ≡ [])
+all_before bs e = (take_all (position_or_len is_line_feed bs) bs (omega (arith, e)), drop_all (position_or_len is_line_feed bs + 1) bs (omega (arith, e)))
+
+last_by : (b : ℕ) (bs l : List ℕ) → (l ≡ b ∷ bs) × (0 < length (b ∷ bs)) × (length (b ∷ bs) ≤ 256) × (position_or_len is_line_feed (b ∷ bs) ≡ length (b ∷ bs)) → FirstIs (b ∷ bs) l []
+last_by b bs l parts =
+    let all = all_before (b ∷ bs) parts.3 in
+    record {
+      lines = first_and_rest b bs ∙ ap (λ x. cut_into x (after_first is_line_feed (b ∷ bs))) (all.0 ∙ sym parts.0) ∙ ap (cut_into l) all.1;
+      short = subst (λ x. length x ≤ 256) (sym parts.0) parts.2;
+    }
+
+pub at_last : (bytes l : List ℕ) → first_line 256 bytes ≡ last_line l → FirstIs bytes l []
+unfolding first_line
+at_last [] l h = absurd cc
+at_last (b ∷ bs) l h = last_by b bs l (last_line-parts 256 (b ∷ bs) l h)
 
 -- a line that is too long
 pub record FirstLong (bytes : List ℕ) : Type 0 where
@@ -80,28 +102,23 @@ pub record FirstLong (bytes : List ℕ) : Type 0 where
 position_within : (bs : List ℕ) → position_or_len is_line_feed bs ≤ length bs
 position_within bs = prefix_len-le-length (λ b. not (is_line_feed b)) bs
 
-long_by : (t : Bool) (bs : List ℕ) → nat_lt 256 (position_or_len is_line_feed bs) ≡ t → lines_in bs ≡ cut_into (before_first is_line_feed bs) (after_first is_line_feed bs) → cond t too_long (a_line (before_first is_line_feed bs) (after_first is_line_feed bs)) ≡ too_long → FirstLong bs
-long_by true bs e f h = record {
+long_by : (t u : Bool) (bs : List ℕ) → nat_lt 256 (position_or_len is_line_feed bs) ≡ t → lines_in bs ≡ cut_into (before_first is_line_feed bs) (after_first is_line_feed bs) → first_by t u bs ≡ too_long → FirstLong bs
+long_by true u bs e f h = record {
   line = before_first is_line_feed bs;
   rest = after_first is_line_feed bs;
   lines = f;
   long = omega (arith, length-take (position_or_len is_line_feed bs) bs, position_within bs, ltb-true 256 (position_or_len is_line_feed bs) e);
 }
-long_by false bs e f h = absurd cc
+long_by false true bs e f h = absurd cc
+long_by false false bs e f h = absurd cc
 
 pub at_long : (bytes : List ℕ) → first_line 256 bytes ≡ too_long → FirstLong bytes
 unfolding first_line
 at_long [] h = absurd cc
-at_long (b ∷ bs) h = long_by (nat_lt 256 (position_or_len is_line_feed (b ∷ bs))) (b ∷ bs) refl (first_and_rest b bs) h
-
-end_by : (t : Bool) (x y : List ℕ) → cond t too_long (a_line x y) ≡ no_line → ⊥
-end_by true x y h = cc
-end_by false x y h = cc
+at_long (b ∷ bs) h = long_by (nat_lt 256 (position_or_len is_line_feed (b ∷ bs))) (nat_lt (position_or_len is_line_feed (b ∷ bs)) (length (b ∷ bs))) (b ∷ bs) refl (first_and_rest b bs) h
 
 pub at_end : (bytes : List ℕ) → first_line 256 bytes ≡ no_line → lines_in bytes ≡ []
-unfolding first_line
-at_end [] h = refl
-at_end (b ∷ bs) h = absurd (end_by (nat_lt 256 (position_or_len is_line_feed (b ∷ bs))) (before_first is_line_feed (b ∷ bs)) (after_first is_line_feed (b ∷ bs)) h)
+at_end bytes h = ap lines_in (no_line-empty 256 bytes h)
 
 -- ---- what is read of them
 
@@ -123,11 +140,11 @@ pub goes_on : (ls : List PathLine) (bytes l rest : List ℕ) (is : PathLine) →
 goes_on ls bytes l rest is e h = ap (read_on ls) e ∙ ap (λ o. read_by ls o (λ ms. read_on ms (lines_in rest))) h
 
 -- by what the bytes of the line are
-pub line_stops : (ls : List PathLine) (bytes l rest : List ℕ) → next_number ls ≤ 64 → first_line 256 bytes ≡ a_line l rest → path_line (list_any is_connect ls) l ≡ None → read_on ls (lines_in bytes) ≡ record { lines = ls; stop = Some (next_number ls) }
-line_stops ls bytes l rest n h p = let f = at_line bytes l rest h in stops_here ls bytes l rest f.lines (short_line_after ls l n f.short ∙ p)
+pub line_stops : (ls : List PathLine) (bytes l rest : List ℕ) → next_number ls ≤ 64 → FirstIs bytes l rest → path_line (list_any is_connect ls) l ≡ None → read_on ls (lines_in bytes) ≡ record { lines = ls; stop = Some (next_number ls) }
+line_stops ls bytes l rest n f p = stops_here ls bytes l rest f.lines (short_line_after ls l n f.short ∙ p)
 
-pub line_goes_on : (ls : List PathLine) (bytes l rest : List ℕ) (is : PathLine) → next_number ls ≤ 64 → first_line 256 bytes ≡ a_line l rest → path_line (list_any is_connect ls) l ≡ Some is → read_on ls (lines_in bytes) ≡ read_on (is ∷ ls) (lines_in rest)
-line_goes_on ls bytes l rest is n h p = let f = at_line bytes l rest h in goes_on ls bytes l rest is f.lines (short_line_after ls l n f.short ∙ p)
+pub line_goes_on : (ls : List PathLine) (bytes l rest : List ℕ) (is : PathLine) → next_number ls ≤ 64 → FirstIs bytes l rest → path_line (list_any is_connect ls) l ≡ Some is → read_on ls (lines_in bytes) ≡ read_on (is ∷ ls) (lines_in rest)
+line_goes_on ls bytes l rest is n f p = goes_on ls bytes l rest is f.lines (short_line_after ls l n f.short ∙ p)
 
 pub long_stops : (ls : List PathLine) (bytes : List ℕ) → first_line 256 bytes ≡ too_long → read_on ls (lines_in bytes) ≡ record { lines = ls; stop = Some (next_number ls) }
 long_stops ls bytes h = let f = at_long bytes h in stops_here ls bytes f.line f.rest f.lines (long_line_after ls f.line f.long)
@@ -136,12 +153,12 @@ pub end_stops : (ls : List PathLine) (bytes : List ℕ) → first_line 256 bytes
 end_stops ls bytes h = ap (read_on ls) (at_end bytes h)
 
 -- a 65th line
-pub late_stops : (ls : List PathLine) (bytes l rest : List ℕ) → 64 < next_number ls → first_line 256 bytes ≡ a_line l rest → read_on ls (lines_in bytes) ≡ record { lines = ls; stop = Some (next_number ls) }
-late_stops ls bytes l rest n h = let f = at_line bytes l rest h in stops_here ls bytes l rest f.lines (no_line_after ls l n)
+pub late_stops : (ls : List PathLine) (bytes l rest : List ℕ) → 64 < next_number ls → FirstIs bytes l rest → read_on ls (lines_in bytes) ≡ record { lines = ls; stop = Some (next_number ls) }
+late_stops ls bytes l rest n f = stops_here ls bytes l rest f.lines (no_line_after ls l n)
 
 -- ---- the scene line
 
-same_length : (a b : List ℕ) → text_eq a b ≡ true → length a ≡ length b
+pub same_length : (a b : List ℕ) → text_eq a b ≡ true → length a ≡ length b
 same_length [] [] h = refl
 same_length [] (y ∷ b) h = absurd cc
 same_length (x ∷ a) [] h = absurd cc
@@ -150,11 +167,11 @@ same_length (x ∷ a) (y ∷ b) h = let k = same_length a b (and_parts (nat_eq x
 scene_by : (t : Bool) (l rest : List ℕ) → text_eq l scene_line ≡ t → read_all (cut_into l rest) ≡ cond t (read_on [] (lines_in rest)) (record { lines = []; stop = Some 1 })
 scene_by t l rest e = ap (λ b. cond b (read_on [] (lines_in rest)) (record { lines = []; stop = Some 1 })) e
 
-pub scene_read : (bytes l rest : List ℕ) → first_line 256 bytes ≡ a_line l rest → text_eq l scene_line ≡ true → read_all (lines_in bytes) ≡ read_on [] (lines_in rest)
-scene_read bytes l rest h e = ap read_all (at_line bytes l rest h).lines ∙ scene_by true l rest e
+pub scene_read : (bytes l rest : List ℕ) → FirstIs bytes l rest → text_eq l scene_line ≡ true → read_all (lines_in bytes) ≡ read_on [] (lines_in rest)
+scene_read bytes l rest h e = ap read_all h.lines ∙ scene_by true l rest e
 
-pub other_scene : (bytes l rest : List ℕ) → first_line 256 bytes ≡ a_line l rest → text_eq l scene_line ≡ false → read_all (lines_in bytes) ≡ record { lines = []; stop = Some 1 }
-other_scene bytes l rest h e = ap read_all (at_line bytes l rest h).lines ∙ scene_by false l rest e
+pub other_scene : (bytes l rest : List ℕ) → FirstIs bytes l rest → text_eq l scene_line ≡ false → read_all (lines_in bytes) ≡ record { lines = []; stop = Some 1 }
+other_scene bytes l rest h e = ap read_all h.lines ∙ scene_by false l rest e
 
 long_other : (t : Bool) (l : List ℕ) → text_eq l scene_line ≡ t → 256 < length l → t ≡ false
 long_other true l e h = absurd (omega (arith, h, same_length l scene_line e))

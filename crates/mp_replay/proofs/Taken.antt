@@ -1,10 +1,10 @@
 -- What a run makes of each line, and how it ends.
-use Rattle.std.proofs.Common.{◌≡◌, ℕ, ◌≤◌, true, false, List, [], ◌++◌, take, Option, Some, None, Ok, refl, sym, ap, subst, ◌∙◌, arith}
+use Rattle.std.proofs.Common.{Bool, ◌≡◌, ℕ, ◌≤◌, true, false, List, [], ◌++◌, take, Option, Some, None, Ok, refl, sym, ap, subst, ◌∙◌, arith}
 use Rattle.gd_variant.specs.Words.{text_eq}
 use Rattle.session_text.specs.Lines.{ReadsLine, first_line}
-use Rattle.session_text.specs.Lines.FirstLine.{a_line, too_long, no_line}
+use Rattle.session_text.specs.Lines.FirstLine.{a_line, last_line, too_long, no_line}
 use Rattle.session_text.specs.declared.lines.NextLine.{NextLine}
-use Rattle.session_text.specs.declared.lines.NextLine.TheVariants.{Line, Long, End}
+use Rattle.session_text.specs.declared.lines.NextLine.TheVariants.{Line, Last, Long, End}
 use Rattle.session_text.specs.declared.lines.ReadStop.{ReadStop}
 use Rattle.session_text.specs.declared.lines.ReadStop.TheVariants as read
 use Rattle.session_text.specs.declared.status.LineWhy.TheVariants as why
@@ -14,19 +14,22 @@ use Rattle.mp_world.specs.Steps.{Parts}
 use Rattle.mp_replay.specs.declared.lines.PathLine.{PathLine}
 use Rattle.mp_replay.specs.Ends.{read_end}
 use Rattle.mp_replay.specs.Output.{EndsAs, Read, lines_in, next_number, read_all, read_on, scene_line, text_after, text_of}
-use Rattle.mp_replay.specs.Steps.{Acted, EndsReading, PutsText, SceneRead, Steps, TakesLine}
-use Rattle.mp_replay.proofs.Reading.{scene_read, other_scene, long_scene, no_scene, line_stops, line_goes_on, long_stops, end_stops, late_stops}
+use Rattle.mp_replay.specs.Steps.{Acted, EndsReading, PutsText, ReadsScene, SceneRead, Steps, TakesLine}
+use Rattle.mp_replay.proofs.Reading.{FirstIs, at_line, at_last, scene_read, other_scene, long_scene, no_scene, line_stops, line_goes_on, long_stops, end_stops, late_stops}
 use Rattle.mp_replay.proofs.Written.{Behind, put_more, reads_behind, whole_lines, some_bytes}
 
 -- ---- what the reader says, over lines of 256 bytes
 
 pub record ReadLine (bytes l : List ℕ) (left : Option (List ℕ)) : Type 0 where
   pub rest : List ℕ
-  pub first : first_line 256 bytes ≡ a_line l rest
+  pub first : FirstIs bytes l rest
   pub remains : left ≡ Some rest
 
 pub a_line_read : (most : ℕ) (bytes l : List ℕ) (found : NextLine) (left : Option (List ℕ)) → most ≡ 256 → found ≡ Line l → ReadsLine most bytes (Ok found) left → ReadLine bytes l left
-a_line_read most bytes l found left e f k = let h : ReadsLine most bytes (Ok (Line l)) left = subst (λ x. ReadsLine most bytes (Ok x) left) f k in record { rest = h.0; first = subst (λ m. first_line m bytes ≡ a_line l h.0) e h.1; remains = h.2 }
+a_line_read most bytes l found left e f k = let h : ReadsLine most bytes (Ok (Line l)) left = subst (λ x. ReadsLine most bytes (Ok x) left) f k in record { rest = h.0; first = at_line bytes l h.0 (subst (λ m. first_line m bytes ≡ a_line l h.0) e h.1); remains = h.2 }
+
+pub last_read : (most : ℕ) (bytes l : List ℕ) (found : NextLine) (left : Option (List ℕ)) → most ≡ 256 → found ≡ Last l → ReadsLine most bytes (Ok found) left → ReadLine bytes l left
+last_read most bytes l found left e f k = let h : ReadsLine most bytes (Ok (Last l)) left = subst (λ x. ReadsLine most bytes (Ok x) left) f k in record { rest = []; first = at_last bytes l (subst (λ m. first_line m bytes ≡ last_line l) e h.0); remains = h.1 }
 
 pub long_read : (most : ℕ) (bytes : List ℕ) (found : NextLine) (left : Option (List ℕ)) → most ≡ 256 → found ≡ Long → ReadsLine most bytes (Ok found) left → first_line 256 bytes ≡ too_long
 long_read most bytes found left e f k = let h : ReadsLine most bytes (Ok Long) left = subst (λ x. ReadsLine most bytes (Ok x) left) f k in subst (λ m. first_line m bytes ≡ too_long) e h.0
@@ -36,11 +39,18 @@ end_read most bytes found left e f k = let h : ReadsLine most bytes (Ok End) lef
 
 -- ---- the scene line
 
-pub scene_taken : (bytes l slice : List ℕ) (left : Option (List ℕ)) → slice ≡ l → text_eq slice scene_line ≡ true → ReadLine bytes l left → SceneRead (read_all (lines_in bytes)) left
+scene_taken : (bytes l slice : List ℕ) (left : Option (List ℕ)) → slice ≡ l → text_eq slice scene_line ≡ true → ReadLine bytes l left → SceneRead (read_all (lines_in bytes)) left
 scene_taken bytes l slice left is e h = record { rest = h.rest; reads = scene_read bytes l h.rest h.first (subst (λ x. text_eq x scene_line ≡ true) is e); remains = h.remains }
 
-pub scene_refused : (bytes l slice : List ℕ) (left : Option (List ℕ)) (s : Status) → slice ≡ l → text_eq slice scene_line ≡ false → s ≡ status.BadLine 1 why.NotBuilt → ReadLine bytes l left → EndsReading (read_all (lines_in bytes)) [] s
+scene_refused : (bytes l slice : List ℕ) (left : Option (List ℕ)) (s : Status) → slice ≡ l → text_eq slice scene_line ≡ false → s ≡ status.BadLine 1 why.NotBuilt → ReadLine bytes l left → EndsReading (read_all (lines_in bytes)) [] s
 scene_refused bytes l slice left s is e b h = subst (λ x. EndsReading (read_all (lines_in bytes)) [] x) (sym b) (other_scene bytes l h.rest h.first (subst (λ x. text_eq x scene_line ≡ false) is e), refl)
+
+judged_by : (t : Bool) (bytes l slice : List ℕ) (left : Option (List ℕ)) (result : Option Status) → text_eq slice scene_line ≡ t → slice ≡ l → (text_eq slice scene_line ≡ true → result ≡ None) → (text_eq slice scene_line ≡ false → result ≡ Some (status.BadLine 1 why.NotBuilt)) → ReadLine bytes l left → ReadsScene (read_all (lines_in bytes)) result left
+judged_by true bytes l slice left result e is taken refused h = subst (λ r. ReadsScene (read_all (lines_in bytes)) r left) (sym (taken e)) (scene_taken bytes l slice left is e h)
+judged_by false bytes l slice left result e is taken refused h = subst (λ r. ReadsScene (read_all (lines_in bytes)) r left) (sym (refused e)) (scene_refused bytes l slice left (status.BadLine 1 why.NotBuilt) is e refl h)
+
+pub scene_judged : (bytes l slice : List ℕ) (left : Option (List ℕ)) (result : Option Status) → slice ≡ l → (text_eq slice scene_line ≡ true → result ≡ None) → (text_eq slice scene_line ≡ false → result ≡ Some (status.BadLine 1 why.NotBuilt)) → ReadLine bytes l left → ReadsScene (read_all (lines_in bytes)) result left
+scene_judged bytes l slice left result is taken refused h = judged_by (text_eq slice scene_line) bytes l slice left result refl is taken refused h
 
 pub scene_long : (bytes : List ℕ) (s : Status) → s ≡ status.BadLine 1 why.NotBuilt → first_line 256 bytes ≡ too_long → EndsReading (read_all (lines_in bytes)) [] s
 scene_long bytes s b h = subst (λ x. EndsReading (read_all (lines_in bytes)) [] x) (sym b) (long_scene bytes h, refl)
@@ -73,7 +83,7 @@ text_taken ls bytes held text slice w before result now a is e p = put_by ls byt
 
 -- ---- the next line
 
-pub next_taken : (ls : List PathLine) (held bytes l rest : List ℕ) (result : Option Status) (w : Parts) (now left : Option (List ℕ)) → next_number ls ≤ 64 → first_line 256 bytes ≡ a_line l rest → left ≡ Some rest → TakesLine ls l (held ++ text_of ls) result w now → Steps (read_on ls (lines_in bytes)) ls held result w now left
+pub next_taken : (ls : List PathLine) (held bytes l rest : List ℕ) (result : Option Status) (w : Parts) (now left : Option (List ℕ)) → next_number ls ≤ 64 → FirstIs bytes l rest → left ≡ Some rest → TakesLine ls l (held ++ text_of ls) result w now → Steps (read_on ls (lines_in bytes)) ls held result w now left
 next_taken ls held bytes l rest None w now left n h e t = record {
   line = t.line;
   rest = rest;

@@ -5,6 +5,7 @@ mod lines;
 mod replay;
 #[cfg(test)]
 mod tests;
+mod words;
 
 pub use lines::{PathLine, read_path_line};
 pub use replay::run;

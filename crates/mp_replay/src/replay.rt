@@ -12,13 +12,17 @@ ghost use Rattle.mp_world.specs.Stands.{Stands};
 ghost use Rattle.mp_replay.specs.declared.lines.PathLine.{PathLine as LineOf};
 ghost use Rattle.mp_replay.specs.declared.lines.PathLine.TheVariants as path;
 ghost use Rattle.mp_replay.specs.declared.replay.LineStop.TheVariants as LineStop;
-ghost use Rattle.mp_replay.specs.Ends.{MayEnd, is_replay as is_replay_of, read_end};
-ghost use Rattle.mp_replay.specs.Output.{EndsAs, client, lines_in, next_number, read_all, read_in, read_on, report_after, text_of};
+ghost use Rattle.packet_show.specs.Ends.{MayEnd as MayEndShow};
+ghost use Rattle.packet_show.specs.Output.{EndsAs as ShowEndsAs, longest_line, most_judged, read_in as packets_in};
+ghost use Rattle.mp_replay.specs.Ends.{MayEnd, is_known, is_replay as is_replay_of, is_show as is_show_of, read_end};
+ghost use Rattle.mp_replay.specs.Output.{EndsAs, client, lines_in, next_number, read_all, read_in, read_on, report_after, scene_line, text_of};
 ghost use Rattle.mp_replay.specs.Steps.{Acts, EndsReading, Happens, Ran, ReadsScene, RunsLine, Steps, PutsText, TakesLine};
 
 use crate::lines::{PathLine, is_scene, read_path_line};
+use crate::words::{is_replay, is_show};
 use gd_variant::{Bytes, OutOfMemory};
 use mp_world::{ReportNo, World, WorldStop};
+use packet_show::show;
 use scene_model::{Report, WorldNo, WorldOutcome};
 use session_text::{
     LineReader, LineWhy, NextLine, ReadStop, Sink, Source, Status, outcome_text, put_all,
@@ -57,22 +61,6 @@ impl From<WorldStop> for LineStop {
 
     fn from(_e: WorldStop) -> LineStop {
         LineStop::OutOfMemory
-    }
-}
-
-fn is_word(word: &str, bytes: &str) -> bool
-    ensures { result ≡ text_eq word.now bytes.now }
-{
-    word == bytes
-}
-
-/// Whether the words are those of the first path.
-fn is_replay(words: &[String]) -> bool
-    ensures { result ≡ is_replay_of words.now }
-{
-    match words {
-        [word] => is_word(word.as_str(), "replay"),
-        _ => false,
     }
 }
 
@@ -160,6 +148,19 @@ fn read_status(stop: ReadStop) -> Status
     }
 }
 
+/// Judges the bytes of line 1. What is answered ends the run.
+fn judge_scene(line: &[u8]) -> Option<Status>
+    ensures scene { text_eq line.now scene_line ≡ true → result ≡ None }
+    ensures other { text_eq line.now scene_line ≡ false → result ≡ Some (status.BadLine 1 why.NotBuilt) }
+    ensures ends { IfSome result (λ s. MayEnd 0 0 0 0 s) }
+{
+    if is_scene(line) {
+        None
+    } else {
+        Some(not_built(1))
+    }
+}
+
 /// Reads the scene line. What is answered ends the run.
 fn read_scene<S: Source>(alloc: Global, reader: &mut LineReader, source: &mut S) -> Option<Status>
     requires { reader.old.most ≡ 256 }
@@ -169,13 +170,8 @@ fn read_scene<S: Source>(alloc: Global, reader: &mut LineReader, source: &mut S)
     ensures reads { (bytes : List ℕ) → unread reader.old (S.left source.old) ≡ Some bytes → ReadsScene (read_all (lines_in bytes)) result (unread reader.new (S.left source.new)) }
 {
     match reader.next(alloc, source) {
-        Ok(NextLine::Line(line)) => {
-            if is_scene(line.as_slice()) {
-                None
-            } else {
-                Some(not_built(1))
-            }
-        }
+        Ok(NextLine::Line(line)) => judge_scene(line.as_slice()),
+        Ok(NextLine::Last(line)) => judge_scene(line.as_slice()),
         Ok(NextLine::Long) => Some(not_built(1)),
         Ok(NextLine::End) => Some(not_built(1)),
         Err(stop) => Some(read_status(stop)),
@@ -231,6 +227,7 @@ fn take_next<S: Source, K: Sink>(
 {
     match reader.next(alloc, source) {
         Ok(NextLine::Line(line)) => take_line(alloc, world, n, line.as_slice(), sink),
+        Ok(NextLine::Last(line)) => take_line(alloc, world, n, line.as_slice(), sink),
         Ok(NextLine::Long) => Some(not_built(n)),
         Ok(NextLine::End) => Some(Status::Done),
         Err(stop) => Some(read_status(stop)),
@@ -247,6 +244,7 @@ fn end_of<S: Source>(alloc: Global, reader: &mut LineReader, source: &mut S) -> 
     match reader.next(alloc, source) {
         Ok(NextLine::End) => Status::Done,
         Ok(NextLine::Line(_)) => not_built(LAST_NUMBER + 1),
+        Ok(NextLine::Last(_)) => not_built(LAST_NUMBER + 1),
         Ok(NextLine::Long) => not_built(LAST_NUMBER + 1),
         Err(stop) => read_status(stop),
     }
@@ -274,6 +272,22 @@ fn run_lines<S: Source, K: Sink>(
     end_of(alloc, reader, source)
 }
 
+/// Replays a session: reads it from the source, line by line, and writes to the sink what each line
+/// does and what each report holds, before it reads on.
+fn replay_session<S: Source, K: Sink>(alloc: Global, source: &mut S, sink: &mut K) -> Status
+    ensures ends { MayEnd (S.faults source.old) (S.faults source.new) (K.faults sink.old) (K.faults sink.new) result }
+    ensures output { (input : List ℕ) → (held : List ℕ) → S.left source.old ≡ Some input → K.held sink.old ≡ Some held → EndsAs (read_in input) held result (K.held sink.new) }
+{
+    let mut reader = match LineReader::new(alloc, LONGEST_LINE) {
+        Ok(reader) => reader,
+        Err(OutOfMemory) => return Status::OutOfMemory,
+    };
+    match read_scene(alloc, &mut reader, source) {
+        Some(status) => status,
+        None => run_lines(alloc, &mut reader, source, sink),
+    }
+}
+
 /// Does what the words ask for. They are those of the command line, without the program's name.
 ///
 /// The one word `replay` reads a session from the source, line by line, and writes to the sink what
@@ -283,9 +297,13 @@ fn run_lines<S: Source, K: Sink>(
 /// are at most 64.
 ///
 /// - `Done`: the session was read to its end, and all that it writes was written.
-/// - `Usage`: other words. Nothing is read or written.
 /// - `BadLine`: the first line that isn't so, by its number. What the lines before it write was
 ///   written, and nothing behind it is judged.
+///
+/// The one word `show` reads packets in hexadecimal, one a line, and writes for each a line that says
+/// what the packet holds, or where and why the bytes are none; `packet_show::show` says how it ends.
+///
+/// - `Usage`: other words. Nothing is read or written.
 /// - `ReadFault`, `WriteFault`: the source or the sink failed in this call. Whole lines, or some of
 ///   the first bytes, were written.
 /// - `OutOfMemory`: whole lines were written.
@@ -295,20 +313,18 @@ pub fn run<S: Source, K: Sink>(
     source: &mut S,
     sink: &mut K,
 ) -> Status
-    ensures usage { result ≡ status.Usage ↔ is_replay_of words.now ≡ false }
+    ensures usage { result ≡ status.Usage ↔ is_known words.now ≡ false }
     ensures ends { is_replay_of words.now ≡ true → MayEnd (S.faults source.old) (S.faults source.new) (K.faults sink.old) (K.faults sink.new) result }
     ensures output { is_replay_of words.now ≡ true → (input : List ℕ) → (held : List ℕ) → S.left source.old ≡ Some input → K.held sink.old ≡ Some held → EndsAs (read_in input) held result (K.held sink.new) }
-    ensures untouched { is_replay_of words.now ≡ false → (source.new ≡ source.old) × (sink.new ≡ sink.old) }
+    ensures show_ends { is_show_of words.now ≡ true → MayEndShow (S.faults source.old) (S.faults source.new) (K.faults sink.old) (K.faults sink.new) result }
+    ensures show_output { is_show_of words.now ≡ true → (input : List ℕ) → (held : List ℕ) → S.left source.old ≡ Some input → K.held sink.old ≡ Some held → ShowEndsAs (packets_in longest_line most_judged input) held result (K.held sink.new) }
+    ensures untouched { is_known words.now ≡ false → (source.new ≡ source.old) × (sink.new ≡ sink.old) }
 {
+    if is_show(words) {
+        return show(alloc, source, sink);
+    }
     if !is_replay(words) {
         return Status::Usage;
     }
-    let mut reader = match LineReader::new(alloc, LONGEST_LINE) {
-        Ok(reader) => reader,
-        Err(OutOfMemory) => return Status::OutOfMemory,
-    };
-    match read_scene(alloc, &mut reader, source) {
-        Some(status) => status,
-        None => run_lines(alloc, &mut reader, source, sink),
-    }
+    replay_session(alloc, source, sink)
 }

@@ -1,14 +1,52 @@
-//! The fields of packets: ids and names.
-ghost use Rattle.std.specs.Prelude.{◌≡◌, ◌++◌, ◌<◌, ◌^◌, length, OnOk, true};
-ghost use Rattle.byte_fields.specs.Fields.{Gives};
+//! The fields that several packets share: values, ids, paths and names.
+ghost use Rattle.std.specs.Prelude.{◌≡◌, ◌<◌, ◌≤◌, ◌+◌, ◌-◌, length, IfOk, MatchOption, true, false};
+ghost use Rattle.std.specs.List.{prefix_len};
+ghost use Rattle.std.specs.Str.{is_utf8};
+ghost use Rattle.byte_fields.specs.Fields.{Gives, fault};
+ghost use Rattle.byte_fields.specs.declared.fault.ReadError.TheVariants as errors;
 ghost use Rattle.gd_variant.specs.Sound.{has_no_zero};
-ghost use Rattle.packet_codec.specs.Reading.{ids_at, name_length_at, name_at, checked_text};
-ghost use Rattle.packet_codec.specs.Packets.{ids_bytes};
+ghost use Rattle.packet_codec.specs.Reading.{is_some, value_at, values_at, ids_at, path_at, name_length_at, name_at};
 
-use byte_fields::{Fault, ReadError, is_text, put_u32, u32_at};
-use gd_variant::{IdList, Text, Why};
+use byte_fields::{Fault, ReadError, u32_at};
+use gd_variant::{IdList, OutOfMemory, Text, ValueList, Variant, Why};
 use sqlite_items::Items;
-use std::alloc::{AllocError, Global};
+use std::alloc::Global;
+use variant_codec::{fault_at, is_without_zero, raw_of, small_of, utf8_of};
+
+/// A fault inside a region at the front of some bytes, counted from the end of the bytes.
+pub fn behind(inside: Fault, region: &[u8], bytes: &[u8]) -> ReadError
+    requires within { inside.left ≤ length region.now }
+    requires front { length region.now ≤ length bytes.now }
+    ensures { result ≡ errors.Fault (fault (inside.left + (length bytes.now - length region.now)) inside.why) }
+{
+    ReadError::Fault(Fault {
+        left: bytes.len() - (region.len() - inside.left),
+        why: inside.why,
+    })
+}
+
+/// A compressed value.
+#[tactic(auto, using(gd_variant::proofs::TreeOf::plain_back), unfolding(crate::specs::Reading::value_at))]
+pub fn value_from(alloc: Global, bytes: &[u8]) -> Result<(Variant, &[u8]), ReadError>
+    ensures { Gives (λ x. (x.0, x.1.now)) result (value_at bytes.now) }
+{
+    let (value, rest) = small_of(alloc, bytes)?;
+    Ok((value, rest))
+}
+
+/// Compressed values up to the end.
+pub fn values_from(alloc: Global, bytes: &[u8]) -> Result<ValueList, ReadError>
+    ensures { Gives (λ x. x) result (values_at bytes.now) }
+{
+    let mut values = Items::new(alloc);
+    let mut rest = bytes;
+    while !rest.is_empty() {
+        let (value, after) = value_from(alloc, rest)?;
+        values.push(value)?;
+        rest = after;
+    }
+    Ok(values)
+}
 
 /// So many ids, each of four bytes.
 #[tactic(auto, unfolding(crate::specs::Reading::ids_at))]
@@ -25,72 +63,71 @@ pub fn ids_from(alloc: Global, count: u32, bytes: &[u8]) -> Result<(IdList, &[u8
     Ok((ids, rest))
 }
 
-/// The length of a name without the zero byte at its end, which the number counts.
+/// How many bytes stand before the first zero byte.
+fn before_zero(bytes: &[u8]) -> usize
+    ensures { result ≡ prefix_len is_some bytes.now }
+{
+    bytes.iter().take_while(|byte| **byte != 0).count()
+}
+
+/// The text of bytes without zero byte, if they are UTF-8.
+fn text_from(alloc: Global, bytes: &[u8]) -> Result<Option<Text>, OutOfMemory>
+    requires { has_no_zero bytes.now ≡ true }
+    ensures { IfOk result (λ o. MatchOption o (is_utf8 bytes.now ≡ false) (λ t. (is_utf8 bytes.now ≡ true) × (t ≡ bytes.now))) }
+{
+    match utf8_of(bytes) {
+        Some(text) => Ok(Some(Text::from_str(alloc, text)?)),
+        None => Ok(None),
+    }
+}
+
+/// A text and a zero byte, up to the end.
+#[tactic(auto, unfolding(crate::specs::Reading::path_at))]
+pub fn path_from(alloc: Global, bytes: &[u8]) -> Result<Text, ReadError>
+    ensures { Gives (λ x. x) result (path_at bytes.now) }
+{
+    let len = before_zero(bytes);
+    if len == bytes.len() {
+        return Err(fault_at(bytes, Why::PathEnd));
+    }
+    let (front, _) = bytes.split_at(len);
+    let (_, after) = bytes.split_at(len + 1);
+    if !after.is_empty() {
+        return Err(fault_at(after, Why::Trailing));
+    }
+    match text_from(alloc, front)? {
+        Some(path) => Ok(path),
+        None => Err(fault_at(bytes, Why::Utf8)),
+    }
+}
+
+/// The length of a name with its zero byte.
 #[tactic(auto, unfolding(crate::specs::Reading::name_length_at))]
 pub fn name_length_from(bytes: &[u8]) -> Result<(u32, &[u8]), ReadError>
-    ensures { Gives (λ x. (x.0, x.1.now)) result (name_length_at bytes.now) }
+    ensures gives { Gives (λ x. (x.0, x.1.now)) result (name_length_at bytes.now) }
+    ensures some { IfOk result (λ x. 0 < x.0) }
 {
     let (len, rest) = u32_at(bytes)?;
     if len == 0 {
-        return Err(ReadError::Fault(Fault {
-            left: bytes.len(),
-            why: Why::PathEnd,
-        }));
+        return Err(fault_at(bytes, Why::PathEnd));
     }
-    Ok((len - 1, rest))
+    Ok((len, rest))
 }
 
-fn is_without_zero(bytes: &[u8]) -> bool
-    ensures { result ≡ has_no_zero bytes.now }
-{
-    bytes.iter().all(|byte| *byte != 0)
-}
-
-/// The text of some bytes; where they are none, so many bytes are left.
-#[tactic(auto, unfolding(crate::specs::Reading::checked_text))]
-fn text_from(alloc: Global, left: usize, bytes: &[u8]) -> Result<Text, ReadError>
-    requires { has_no_zero bytes.now ≡ true }
-    ensures { Gives (λ x. x) result (checked_text left bytes.now) }
-{
-    match std::str::from_utf8(bytes) {
-        Ok(text) => Ok(Text::from_str(alloc, text)?),
-        Err(_) => Err(ReadError::Fault(Fault {
-            left,
-            why: Why::Utf8,
-        })),
-    }
-}
-
-/// A name of so many bytes, and its zero byte.
+/// A name and its zero byte, in so many bytes.
 #[tactic(auto, unfolding(crate::specs::Reading::name_at))]
 pub fn name_from(alloc: Global, len: u32, bytes: &[u8]) -> Result<(Text, &[u8]), ReadError>
+    requires { 0 < len }
     ensures { Gives (λ x. (x.0, x.1.now)) result (name_at len bytes.now) }
 {
     let len = len as usize;
-    if bytes.len() <= len {
-        return Err(ReadError::Fault(Fault {
-            left: bytes.len(),
-            why: Why::Short,
-        }));
+    let (field, rest) = raw_of(len, bytes)?;
+    let (front, end) = field.split_at(len - 1);
+    if end[0] != 0 || !is_without_zero(front) {
+        return Err(fault_at(bytes, Why::PathEnd));
     }
-    let (name, end) = bytes.split_at(len);
-    if end[0] != 0 || !is_without_zero(name) {
-        return Err(ReadError::Fault(Fault {
-            left: bytes.len(),
-            why: Why::PathEnd,
-        }));
+    match text_from(alloc, front)? {
+        Some(name) => Ok((name, rest)),
+        None => Err(fault_at(bytes, Why::Utf8)),
     }
-    let name = text_from(alloc, bytes.len(), name)?;
-    let (_, after) = end.split_at(1);
-    Ok((name, after))
-}
-
-/// Puts ids at the end, each in four bytes.
-pub fn put_ids(out: &mut Vec<u8>, ids: &[u32]) -> Result<(), AllocError>
-    ensures { OnOk result (out.new.items ≡ out.old.items ++ ids_bytes ids.now) }
-{
-    for id in ids {
-        put_u32(out, *id)?;
-    }
-    Ok(())
 }

@@ -1,29 +1,58 @@
-//! The Spawn packet.
-ghost use Rattle.std.specs.Prelude.{◌≡◌, ◌++◌, ◌<◌, ◌^◌, ◌+◌, length, OnOk, true};
-ghost use Rattle.gd_variant.specs.Sound.{has_no_zero};
+//! Reading spawns and despawns.
 ghost use Rattle.byte_fields.specs.Fields.{Gives};
-ghost use Rattle.packet_codec.specs.Reading.{scene_at, spawn_at};
-ghost use Rattle.packet_codec.specs.Packets.{IsSpawn, spawn_bytes};
-ghost use Rattle.packet_codec.specs.Smalls.{written_smalls, AreInRange};
+ghost use Rattle.gd_variant.specs.declared.message.Why.TheVariants.{Size};
+ghost use Rattle.packet_codec.specs.Wholes.{ending_by, region_by};
+ghost use Rattle.packet_codec.specs.Reading.{value_at, arg_at, arg_for, spawn_at, despawn_at};
 
-use crate::fields::{ids_from, name_from, name_length_from, put_ids};
-use crate::int::{put_smalls, smalls_from};
-use byte_fields::{Fault, ReadError, put_bytes, put_u8, put_u32, u8_at, u32_at};
+use crate::fields::{behind, ids_from, name_from, name_length_from, value_from, values_from};
+use byte_fields::{ReadError, u8_at, u32_at};
 use gd_variant::{Plain, Variant, Why};
-use std::alloc::{AllocError, Global};
+use std::alloc::Global;
+use variant_codec::{fault_at, raw_of};
 
-#[tactic(auto, unfolding(crate::specs::Reading::scene_at))]
-fn scene_from(bytes: &[u8]) -> Result<(u8, &[u8]), ReadError>
-    ensures { Gives (λ x. (x.0, x.1.now)) result (scene_at bytes.now) }
+/// One value up to the end.
+fn only_value_from(alloc: Global, bytes: &[u8]) -> Result<Variant, ReadError>
+    ensures { Gives (λ x. x) result (ending_by Size value_at bytes.now) }
 {
-    let (scene, rest) = u8_at(bytes)?;
-    if scene == 255 {
-        return Err(ReadError::Fault(Fault {
-            left: bytes.len(),
-            why: Why::NotBuilt,
-        }));
+    let (value, rest) = value_from(alloc, bytes)?;
+    if !rest.is_empty() {
+        return Err(fault_at(rest, Why::Size));
     }
-    Ok((scene, rest))
+    Ok(value)
+}
+
+/// One value that fills so many bytes.
+fn value_within(alloc: Global, len: usize, bytes: &[u8]) -> Result<(Variant, &[u8]), ReadError>
+    ensures { Gives (λ x. (x.0, x.1.now)) result (region_by len (ending_by Size value_at) bytes.now) }
+{
+    let (front, after) = raw_of(len, bytes)?;
+    match only_value_from(alloc, front) {
+        Ok(value) => Ok((value, after)),
+        Err(ReadError::Memory) => Err(ReadError::Memory),
+        Err(ReadError::Fault(inside)) => Err(behind(inside, front, bytes)),
+    }
+}
+
+/// A custom argument behind its size.
+#[tactic(auto, unfolding(crate::specs::Reading::arg_at))]
+fn arg_from(alloc: Global, bytes: &[u8]) -> Result<(Variant, &[u8]), ReadError>
+    ensures { Gives (λ x. (x.0, x.1.now)) result (arg_at bytes.now) }
+{
+    let (size, rest) = u32_at(bytes)?;
+    value_within(alloc, size as usize, rest)
+}
+
+/// The custom argument, which stands there for scene 255 alone.
+#[tactic(auto, unfolding(crate::specs::Reading::arg_for))]
+fn arg_for(alloc: Global, scene: u8, bytes: &[u8]) -> Result<(Option<Variant>, &[u8]), ReadError>
+    ensures { Gives (λ x. (x.0, x.1.now)) result (arg_for scene bytes.now) }
+{
+    if scene == 255 {
+        let (arg, rest) = arg_from(alloc, bytes)?;
+        Ok((Some(arg), rest))
+    } else {
+        Ok((None, bytes))
+    }
 }
 
 /// A spawn, behind its first byte.
@@ -31,51 +60,34 @@ fn scene_from(bytes: &[u8]) -> Result<(u8, &[u8]), ReadError>
 pub fn spawn_from(alloc: Global, bytes: &[u8]) -> Result<Plain, ReadError>
     ensures { Gives (λ x. x) result (spawn_at bytes.now) }
 {
-    let (scene, rest) = scene_from(bytes)?;
+    let (scene, rest) = u8_at(bytes)?;
     let (spawner, rest) = u32_at(rest)?;
     let (net, rest) = u32_at(rest)?;
     let (count, rest) = u32_at(rest)?;
     let (len, rest) = name_length_from(rest)?;
     let (syncs, rest) = ids_from(alloc, count, rest)?;
     let (name, rest) = name_from(alloc, len, rest)?;
-    let values = smalls_from(alloc, rest)?;
+    let (arg, rest) = arg_for(alloc, scene, rest)?;
+    let values = values_from(alloc, rest)?;
     Ok(Plain::Spawn {
         scene,
         spawner,
         net,
         syncs,
         name,
-        arg: None,
+        arg,
         values,
     })
 }
 
-/// Puts a spawn at the end.
-pub fn put_spawn(
-    out: &mut Vec<u8>,
-    scene: u8,
-    spawner: u32,
-    net: u32,
-    syncs: &[u32],
-    name: &str,
-    values: &[Variant],
-) -> Result<(), AllocError>
-    requires scene_fits { scene < 255 }
-    requires zero { has_no_zero name.now ≡ true }
-    requires syncs_fit { length syncs.now < 2 ^ 32 }
-    requires name_fits { length name.now + 1 < 2 ^ 32 }
-    ensures range { OnOk result (AreInRange values.now) }
-    ensures is { OnOk result (IsSpawn scene spawner net syncs.now name.now) }
-    ensures put { OnOk result (out.new.items ≡ out.old.items ++ spawn_bytes scene spawner net syncs.now name.now (written_smalls values.now)) }
+/// A despawn, behind its first byte.
+#[tactic(auto, unfolding(crate::specs::Reading::despawn_at))]
+pub fn despawn_from(bytes: &[u8]) -> Result<Plain, ReadError>
+    ensures { Gives (λ x. x) result (despawn_at bytes.now) }
 {
-    put_u8(out, 4)?;
-    put_u8(out, scene)?;
-    put_u32(out, spawner)?;
-    put_u32(out, net)?;
-    put_u32(out, syncs.len() as u32)?;
-    put_u32(out, name.len() as u32 + 1)?;
-    put_ids(out, syncs)?;
-    put_bytes(out, name.as_bytes())?;
-    put_u8(out, 0)?;
-    put_smalls(out, values)
+    let (net, rest) = u32_at(bytes)?;
+    if !rest.is_empty() {
+        return Err(fault_at(rest, Why::Trailing));
+    }
+    Ok(Plain::Despawn { net })
 }

@@ -17,7 +17,8 @@ use Rattle.scene_model.specs.declared.outcome.Refusal.{Refusal}
 use Rattle.scene_model.specs.declared.outcome.Refusal.TheVariants.{BadName, NameTaken, NodesFull, BadPeer, PeersFull, NotBuilt}
 use Rattle.scene_model.specs.declared.outcome.Fault.TheVariants as fault
 use Rattle.scene_model.specs.Paths.{is_name}
-use Rattle.packet_codec.specs.Packets.{read_packet, written_packet}
+use Rattle.packet_codec.specs.Packets.{read_packet}
+use Rattle.packet_codec.specs.Written.{written_packet}
 use Rattle.peer_model.specs.Heard.{server}
 use Rattle.peer_model.specs.Bytes.{PacketForm}
 use Rattle.peer_core.specs.declared.rows.SpawnedRow.{SpawnedRow}

@@ -2,7 +2,7 @@
 ghost use Rattle.std.specs.Prelude.{◌≡◌, ◌∷◌, [], ◌++◌, true, map, IfOk, OnOk};
 ghost use Rattle.std.specs.List.{list_all};
 ghost use Rattle.gd_variant.specs.declared.message.Message.TheVariants.{Plain as plain_packet};
-ghost use Rattle.packet_codec.specs.Packets.{written_packet};
+ghost use Rattle.packet_codec.specs.Written.{written_packet};
 ghost use Rattle.scene_model.specs.declared.event.Class.TheVariants.{Reliable as reliably};
 ghost use Rattle.peer_core.specs.FirstPath.{is_right, row_packet};
 ghost use Rattle.peer_core.specs.Steps.{packet_form, show_to, shows_to};

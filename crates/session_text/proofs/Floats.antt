@@ -7,7 +7,7 @@ use Rattle.gd_variant.specs.Tree as tree
 use Rattle.serde_json.specs.Data.{Data, string}
 use Rattle.serde_json.specs.View.{items_of}
 use Rattle.serde_json.specs.Written.{has_float, items_have_float}
-use Rattle.session_text.specs.Json.{int_of}
+use Rattle.session_text.specs.Json.{hex_of, int_of, nat_of}
 use Rattle.session_text.specs.Values.{ints_of, pairs_data, texts_of, tree_data, trees_data, value_of, values_of}
 
 pub items_have_float-any : (ds : List Data) → items_have_float (items_of ds) ≡ list_any has_float ds
@@ -15,10 +15,10 @@ items_have_float-any [] = refl
 items_have_float-any (d ∷ ds) = ap (λ (b : Bool). has_float d || b) (items_have_float-any ds)
 
 -- neither has one
-both : {a b : Bool} → a ≡ false → b ≡ false → (a || b) ≡ false
+pub both : {a b : Bool} → a ≡ false → b ≡ false → (a || b) ≡ false
 both e f = rw (e, f) refl
 
-int_exact : (z : ℤ) → has_float (int_of z) ≡ false
+pub int_exact : (z : ℤ) → has_float (int_of z) ≡ false
 int_exact (pos n) = refl
 int_exact (negsuc n) = refl
 
@@ -74,3 +74,6 @@ value_cells p v ea eb ec ed ee = both (known ea refl) (both (known eb (int_exact
 
 pub run_cells : {a b c d e f : Data} {word path method : List ℕ} (p sender : ℤ) (vs : List Variant) → a ≡ string word → b ≡ int_of p → c ≡ int_of sender → d ≡ string path → e ≡ string method → f ≡ values_of vs → list_any has_float (a ∷ b ∷ c ∷ d ∷ e ∷ f ∷ []) ≡ false
 run_cells p sender vs ea eb ec ed ee ef = both (known ea refl) (both (known eb (int_exact p)) (both (known ec (int_exact sender)) (both (known ed refl) (both (known ee refl) (both (known ef (values_exact vs)) refl)))))
+
+pub decoded_cells : {a b c d : Data} {word : List ℕ} (n : ℕ) (v : Variant) (form : List ℕ) → a ≡ string word → b ≡ nat_of n → c ≡ value_of v → d ≡ hex_of form → list_any has_float (a ∷ b ∷ c ∷ d ∷ []) ≡ false
+decoded_cells n v form ea eb ec ed = both (known ea refl) (both (known eb refl) (both (known ec (value_exact v)) (both (known ed refl) refl)))

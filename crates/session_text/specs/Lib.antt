@@ -7,3 +7,5 @@ pub mod Values
 pub mod Reasons
 pub mod Outcomes
 pub mod Reports
+pub mod Decoded
+pub mod Messages

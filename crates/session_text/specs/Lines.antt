@@ -4,7 +4,7 @@ use Rattle.std.specs.List.{position_or_len, before_first, after_first}
 use Rattle.gd_variant.specs.declared.text.OutOfMemory.{OutOfMemory}
 use Rattle.session_text.specs.Causes.{Rose}
 use Rattle.session_text.specs.declared.lines.NextLine.{NextLine}
-use Rattle.session_text.specs.declared.lines.NextLine.TheVariants.{Line, Long, End}
+use Rattle.session_text.specs.declared.lines.NextLine.TheVariants.{Line, Last, Long, End}
 use Rattle.session_text.specs.declared.lines.ReadStop.{ReadStop}
 use Rattle.session_text.specs.declared.lines.ReadStop.TheVariants as stop
 
@@ -14,15 +14,18 @@ is_line_feed byte = nat_eq byte 10
 -- what stands at the front of an input
 pub data FirstLine : Type 0 where
   a_line : List ℕ → List ℕ → FirstLine
+  last_line : List ℕ → FirstLine
   too_long : FirstLine
   no_line : FirstLine
 
--- The bytes of the first line and what follows it; or it has more bytes than `most`; or nothing is there.
+-- The bytes of the first line and what follows its line feed; or all bytes, where no line feed stands in
+-- them; or the first line has more bytes than `most`; or nothing is there.
 unfoldable pub first_line : ℕ → List ℕ → FirstLine
 first_line most [] = no_line
 first_line most (b ∷ bs) =
     if nat_lt most (position_or_len is_line_feed (b ∷ bs)) then too_long
-    else a_line (before_first is_line_feed (b ∷ bs)) (after_first is_line_feed (b ∷ bs))
+    else if nat_lt (position_or_len is_line_feed (b ∷ bs)) (length (b ∷ bs)) then a_line (before_first is_line_feed (b ∷ bs)) (after_first is_line_feed (b ∷ bs))
+    else last_line (b ∷ bs)
 
 -- What a reader of lines has: the greatest number of a line's bytes, the bytes that it took and didn't
 -- hand out yet, and whether its source came to the end.
@@ -55,6 +58,7 @@ unread reader (Some left) = Some (if reader.ended then reader.bytes else (reader
 -- what `next` answers over these unread bytes, and what is unread afterwards
 abbrev pub ReadsLine : ℕ → List ℕ → Result NextLine ReadStop → Option (List ℕ) → Type 0
 ReadsLine most bytes (Ok (Line l)) after = (rest : List ℕ) × (first_line most bytes ≡ a_line l rest) × (after ≡ Some rest)
+ReadsLine most bytes (Ok (Last l)) after = (first_line most bytes ≡ last_line l) × (after ≡ Some [])
 ReadsLine most bytes (Ok Long) after = (first_line most bytes ≡ too_long) × (after ≡ Some bytes)
 ReadsLine most bytes (Ok End) after = (first_line most bytes ≡ no_line) × (after ≡ Some bytes)
 ReadsLine most bytes (Err e) after = after ≡ Some bytes

@@ -91,7 +91,6 @@ byte_name why.Size = codes "Size"
 byte_name why.Trailing = codes "Trailing"
 byte_name why.Nested = codes "Nested"
 byte_name why.TooLong = codes "TooLong"
-byte_name why.NotBuilt = codes "NotBuilt"
 
 -- a fault of a received packet
 abbrev pub fault_name : Fault → List ℕ

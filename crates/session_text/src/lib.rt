@@ -1,9 +1,11 @@
 //! The edge of the program: where bytes come from and go to, lines, and how a run ends.
 #![tactic(auto)]
 
+mod decoded;
 mod json;
 mod lines;
 mod memory;
+mod messages;
 mod outcomes;
 mod process;
 mod reasons;
@@ -15,8 +17,10 @@ mod status;
 mod tests;
 mod values;
 
+pub use decoded::decoded_text;
 pub use lines::{LineReader, NextLine, PIECE, ReadStop};
 pub use memory::{MemSink, MemSource, SureSink, SureSource};
+pub use messages::{bad_text, message_text};
 pub use outcomes::outcome_text;
 pub use process::{StdSink, StdSource};
 pub use reports::report_text;

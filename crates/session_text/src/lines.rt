@@ -16,8 +16,10 @@ pub const PIECE: usize = 65_536;
 /// What a reader of lines found at the front of what is unread.
 #[derive(Debug, Drop)]
 pub enum NextLine {
-    /// A line, without its line feed.
+    /// A line that ends with a line feed, without it.
     Line(Bytes),
+    /// The bytes after the last line feed, where the input ends without one.
+    Last(Bytes),
     /// A line with more bytes than the reader's limit. It stays unread.
     Long,
     /// The end of the input.
@@ -136,9 +138,9 @@ impl LineReader {
     }
 
     /// Hands out the first `count` bytes, and leaves out the one behind them, if there is one.
-    fn split_line(&mut self, alloc: Global, count: usize) -> Result<NextLine, OutOfMemory>
+    fn split_line(&mut self, alloc: Global, count: usize) -> Result<Bytes, OutOfMemory>
         requires { count ≤ length self.old.bytes }
-        ensures line { IfOk result (λ found. found ≡ NextLine.Line (take count self.old.bytes)) }
+        ensures line { IfOk result (λ line. line ≡ take count self.old.bytes) }
         ensures rest { OnOk result (self.new ≡ record self.old { bytes = drop (count + 1) self.old.bytes }) }
         ensures err { OnErr result (self.new ≡ self.old) }
         ensures bounded { length self.new.bytes ≤ self.new.most + PIECE }
@@ -147,7 +149,7 @@ impl LineReader {
         let line = Bytes::from_slice(alloc, &rest[..count])?;
         self.at = self.buffer.len().min(self.at + count + 1);
         self.clean = 0;
-        Ok(NextLine::Line(line))
+        Ok(line)
     }
 
     fn held(&self) -> usize
@@ -165,12 +167,14 @@ impl LineReader {
         let ended = self.ended;
         let held = self.held();
         match self.find_line_feed() {
-            Some(count) if count <= most => Ok(Some(self.split_line(alloc, count)?)),
+            Some(count) if count <= most => {
+                Ok(Some(NextLine::Line(self.split_line(alloc, count)?)))
+            }
             Some(_) => Ok(Some(NextLine::Long)),
             None if held > most => Ok(Some(NextLine::Long)),
             None if !ended => Ok(None),
             None if held == 0 => Ok(Some(NextLine::End)),
-            None => Ok(Some(self.split_line(alloc, held)?)),
+            None => Ok(Some(NextLine::Last(self.split_line(alloc, held)?))),
         }
     }
 

@@ -90,7 +90,7 @@ pub fn world_fields(alloc: Global, no: &WorldNo) -> Result<Vec<Value>, OutOfMemo
 }
 
 /// The name of what is wrong with some bytes.
-fn why_name(why: Why) -> &'static str
+pub fn why_name(why: Why) -> &'static str
     ensures { result.now ≡ byte_name why }
 {
     match why {
@@ -113,7 +113,6 @@ fn why_name(why: Why) -> &'static str
         Why::Trailing => "Trailing",
         Why::Nested => "Nested",
         Why::TooLong => "TooLong",
-        Why::NotBuilt => "NotBuilt",
     }
 }
 

@@ -1,4 +1,4 @@
--- The written form of a sound tree is a form of it, of the length that its size tells.
+-- The written form of a sound tree is a form of it; that of any tree has the length that its size tells.
 use Rattle.std.proofs.Common.{◌≡◌, ℕ, ◌+◌, ◌*◌, ◌/◌, ◌^◌, ◌<◌, ◌≤◌, Bool, true, false, List, [], ◌∷◌, ◌++◌, length, refl, sym, ap, ◌∙◌, arith, inl, inr}
 use Rattle.std.specs.Prelude.{ℤ, pos, negsuc, not, ◌&&◌, nat_eq, nat_le, nat_lt, sum_by, replicate, if◌then◌else◌}
 use Rattle.std.specs.Int.{w8, w16, w32, w64}
@@ -73,15 +73,13 @@ long_size n = length-word w64 (2 ^ 64) wide64 n
 
 -- ---- an Int
 
-short_int : (z : ℤ) → nat_le (int_width z) 4 ≡ true → IsWithin half32 z → Spells (int z) (written (int z)) × (length (written (int z)) ≡ tree_size (int z))
-short_int z e h =
-    rw e (inl (record { body = written_short z; right = (h, refl); form = refl }), omega (arith, length-append (header 2 false) (written_short z), word_size (2 + flag false), word_size (bits_of half32 z)))
+short_int : (z : ℤ) → nat_le (int_width z) 4 ≡ true → IsWithin half32 z → Spells (int z) (written (int z))
+short_int z e h = rw e (inl (record { body = written_short z; right = (h, refl); form = refl }))
 
-long_int : (z : ℤ) → nat_le (int_width z) 4 ≡ false → IsWithin half64 z → Spells (int z) (written (int z)) × (length (written (int z)) ≡ tree_size (int z))
-long_int z e h =
-    rw e (inr (record { body = written_long z; right = (h, refl); form = refl }), omega (arith, length-append (header 2 true) (written_long z), word_size (2 + flag true), long_size (bits_of half64 z)))
+long_int : (z : ℤ) → nat_le (int_width z) 4 ≡ false → IsWithin half64 z → Spells (int z) (written (int z))
+long_int z e h = rw e (inr (record { body = written_long z; right = (h, refl); form = refl }))
 
-int_form : (z : ℤ) → is_long z ≡ true → Spells (int z) (written (int z)) × (length (written (int z)) ≡ tree_size (int z))
+int_form : (z : ℤ) → is_long z ≡ true → Spells (int z) (written (int z))
 int_form z h =
     elim (takes z) [
       | takes_one e lt ↦ short_int z (rw e refl) (widened half8 z (omega arith) lt)
@@ -90,13 +88,32 @@ int_form z h =
       | takes_eight e ↦ long_int z (rw e refl) (long_within z h)
     ]
 
-small_int_form : (z : ℤ) → is_long z ≡ true → SpellsSmallInt z (written_small_int z) × (length (written_small_int z) ≡ 1 + int_width z)
+small_int_form : (z : ℤ) → is_long z ≡ true → SpellsSmallInt z (written_small_int z)
 small_int_form z h =
     elim (takes z) [
-      | takes_one e lt ↦ rw e (inl (lt, refl), omega (arith, length-word w8 (2 ^ 8) wide8 (bits_of half8 z)))
-      | takes_two e lt ↦ rw e (inr (inl (lt, refl)), omega (arith, length-word w16 (2 ^ 16) wide16 (bits_of half16 z)))
-      | takes_four e lt ↦ rw e (inr (inr (inl (lt, refl))), omega (arith, word_size (bits_of half32 z)))
-      | takes_eight e ↦ rw e (inr (inr (inr (long_within z h, refl))), omega (arith, long_size (bits_of half64 z)))
+      | takes_one e lt ↦ rw e (inl (lt, refl))
+      | takes_two e lt ↦ rw e (inr (inl (lt, refl)))
+      | takes_four e lt ↦ rw e (inr (inr (inl (lt, refl))))
+      | takes_eight e ↦ rw e (inr (inr (inr (long_within z h, refl))))
+    ]
+
+small_int_size : (z : ℤ) → length (written_small_int z) ≡ 1 + int_width z
+small_int_size z =
+    elim (takes z) [
+      | takes_one e lt ↦ rw e (omega (arith, length-word w8 (2 ^ 8) wide8 (bits_of half8 z)))
+      | takes_two e lt ↦ rw e (omega (arith, length-word w16 (2 ^ 16) wide16 (bits_of half16 z)))
+      | takes_four e lt ↦ rw e (omega (arith, word_size (bits_of half32 z)))
+      | takes_eight e ↦ rw e (omega (arith, long_size (bits_of half64 z)))
+    ]
+
+-- a number takes 9 bytes at most
+pub small_int_short : (z : ℤ) → length (written_small_int z) ≤ 9
+small_int_short z =
+    elim (takes z) [
+      | takes_one e lt ↦ omega (arith, small_int_size z, e)
+      | takes_two e lt ↦ omega (arith, small_int_size z, e)
+      | takes_four e lt ↦ omega (arith, small_int_size z, e)
+      | takes_eight e ↦ omega (arith, small_int_size z, e)
     ]
 
 -- ---- texts and lists
@@ -153,6 +170,13 @@ numbered n P body lt p = record { body = body; short = lt; right = p; form = ref
 
 counted : (n : ℕ) (P : List ℕ → Type 0) (body : List ℕ) → n < 2 ^ 31 → P body → Counted n P (word w32 n ++ body)
 counted n P body lt p = record { bit = false; body = body; short = lt; right = p; form = ap (λ k. word w32 k ++ body) (omega arith) }
+
+int_size : (z : ℤ) → length (written (int z)) ≡ tree_size (int z)
+int_size z =
+    elim (cases_Bool (nat_le (int_width z) 4)) [
+      | inl e ↦ rw e (omega (arith, headed_size 2 false (written_short z), word_size (bits_of half32 z)))
+      | inr e ↦ rw e (omega (arith, headed_size 2 true (written_long z), long_size (bits_of half64 z)))
+    ]
 
 opaque_length : (c : ℕ) (w : Bool) (bytes : List ℕ) → length (header c w ++ written_opaque c w bytes) ≡ tree_size (opaque c w bytes)
 opaque_length c w bytes =
@@ -218,7 +242,7 @@ mutual
   written_spells nil r le = record { body = []; right = refl; form = sym (append-nil (header 0 false)) }
   written_spells (boolean true) r le = behind 1 false _ (word w32 1) (record { bits = 1; fits = omega arith; is = refl; form = refl })
   written_spells (boolean false) r le = behind 1 false _ (word w32 0) (record { bits = 0; fits = omega arith; is = refl; form = refl })
-  written_spells (int z) r le = (int_form z r).0
+  written_spells (int z) r le = int_form z r
   written_spells (text t) r le = behind 4 false _ (written_padded t) (r, padded_form t (omega (arith, le)))
   written_spells (name t) r le = behind 21 false _ (written_padded t) (r, padded_form t (omega (arith, le)))
   written_spells (path a ns ss) r le = path_form a ns ss r le
@@ -247,40 +271,39 @@ mutual
       let a = and_parts (is_right t) (are_right ts) r in
       (written t, written_all ts, written_spells t a.0 (omega (arith, le)), all_spelled ts a.1 (omega (arith, le)), refl)
 
+-- the lengths of what is written for any tree, right or not
 mutual
-  pub written_size : (t : Tree) → is_right t ≡ true → length (written t) ≡ tree_size t
-  written_size nil r = word_size (0 + flag false)
-  written_size (boolean x) r = omega (arith, headed_size 1 false (word w32 (if x then 1 else 0)), word_size (if x then 1 else 0))
-  written_size (int z) r = (int_form z r).1
-  written_size (text t) r = omega (arith, headed_size 4 false (written_padded t), padded_size t)
-  written_size (name t) r = omega (arith, headed_size 21 false (written_padded t), padded_size t)
-  written_size (path a ns ss) r = path_length a ns ss
-  written_size (ints c zs) r = omega (arith, headed_size c false (flat_map written_short zs), shorts_size zs)
-  written_size (opaque c w bytes) r = opaque_length c w bytes
-  written_size (dict ts) r =
-      omega (arith, headed_size 27 false (word w32 (count ts / 2) ++ written_all ts), counted_size (count ts / 2) (written_all ts), all_sizes ts (and_parts (keys_distinct ts) (are_right ts) r).1)
-  written_size (array ts) r = omega (arith, headed_size 28 false (word w32 (count ts) ++ written_all ts), counted_size (count ts) (written_all ts), all_sizes ts r)
-  written_size (packed_bytes bytes) r = omega (arith, headed_size 29 false (written_padded bytes), padded_size bytes)
-  written_size (packed_ints false zs) r = omega (arith, headed_size 30 false (word w32 (length zs) ++ flat_map written_short zs), counted_size (length zs) (flat_map written_short zs), shorts_size zs)
-  written_size (packed_ints true zs) r = omega (arith, headed_size 31 false (word w32 (length zs) ++ flat_map written_long zs), counted_size (length zs) (flat_map written_long zs), longs_size zs)
-  written_size (packed_texts ts) r = omega (arith, headed_size 34 false (word w32 (length ts) ++ flat_map written_padded ts), counted_size (length ts) (flat_map written_padded ts), texts_size ts)
+  pub written_size : (t : Tree) → length (written t) ≡ tree_size t
+  written_size nil = word_size (0 + flag false)
+  written_size (boolean x) = omega (arith, headed_size 1 false (word w32 (if x then 1 else 0)), word_size (if x then 1 else 0))
+  written_size (int z) = int_size z
+  written_size (text t) = omega (arith, headed_size 4 false (written_padded t), padded_size t)
+  written_size (name t) = omega (arith, headed_size 21 false (written_padded t), padded_size t)
+  written_size (path a ns ss) = path_length a ns ss
+  written_size (ints c zs) = omega (arith, headed_size c false (flat_map written_short zs), shorts_size zs)
+  written_size (opaque c w bytes) = opaque_length c w bytes
+  written_size (dict ts) =
+      omega (arith, headed_size 27 false (word w32 (count ts / 2) ++ written_all ts), counted_size (count ts / 2) (written_all ts), all_sizes ts)
+  written_size (array ts) = omega (arith, headed_size 28 false (word w32 (count ts) ++ written_all ts), counted_size (count ts) (written_all ts), all_sizes ts)
+  written_size (packed_bytes bytes) = omega (arith, headed_size 29 false (written_padded bytes), padded_size bytes)
+  written_size (packed_ints false zs) = omega (arith, headed_size 30 false (word w32 (length zs) ++ flat_map written_short zs), counted_size (length zs) (flat_map written_short zs), shorts_size zs)
+  written_size (packed_ints true zs) = omega (arith, headed_size 31 false (word w32 (length zs) ++ flat_map written_long zs), counted_size (length zs) (flat_map written_long zs), longs_size zs)
+  written_size (packed_texts ts) = omega (arith, headed_size 34 false (word w32 (length ts) ++ flat_map written_padded ts), counted_size (length ts) (flat_map written_padded ts), texts_size ts)
 
-  all_sizes : (ts : Trees) → are_right ts ≡ true → length (written_all ts) ≡ trees_size ts
-  all_sizes none r = refl
-  all_sizes (item t ts) r =
-      let a = and_parts (is_right t) (are_right ts) r in
-      omega (arith, length-append (written t) (written_all ts), written_size t a.0, all_sizes ts a.1)
+  all_sizes : (ts : Trees) → length (written_all ts) ≡ trees_size ts
+  all_sizes none = refl
+  all_sizes (item t ts) = omega (arith, length-append (written t) (written_all ts), written_size t, all_sizes ts)
 
 -- ---- compressed
 
 pub small_written_spells : (t : Tree) → is_right t ≡ true → tree_size t ≤ 8388608 → SpellsSmall t (written_small t)
 small_written_spells (boolean false) r le = refl
 small_written_spells (boolean true) r le = refl
-small_written_spells (int z) r le = (small_int_form z r).0
+small_written_spells (int z) r le = small_int_form z r
 small_written_spells t r le = written_spells t r le
 
-pub small_written_size : (t : Tree) → is_right t ≡ true → length (written_small t) ≡ small_tree_size t
-small_written_size (boolean false) r = refl
-small_written_size (boolean true) r = refl
-small_written_size (int z) r = (small_int_form z r).1
-small_written_size t r = written_size t r
+pub small_written_size : (t : Tree) → length (written_small t) ≡ small_tree_size t
+small_written_size (boolean false) = refl
+small_written_size (boolean true) = refl
+small_written_size (int z) = small_int_size z
+small_written_size t = written_size t

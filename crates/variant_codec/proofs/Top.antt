@@ -165,10 +165,10 @@ none_begins {read = read} codec t u a b x y st su ra rb e =
     (p.0, same_rest a b x y e p.1)
 
 pub written_forms : WritesForms Spells written tree_size
-written_forms t s = let p = sound_parts t s in (written_spells t p.right p.long, written_size t p.right)
+written_forms t s = let p = sound_parts t s in (written_spells t p.right p.long, written_size t)
 
 pub small_written_forms : WritesForms SpellsSmall written_small small_tree_size
-small_written_forms t s = let p = sound_parts t s in (small_written_spells t p.right p.long, small_written_size t p.right)
+small_written_forms t s = let p = sound_parts t s in (small_written_spells t p.right p.long, small_written_size t)
 
 pub written_is : (t : Tree) (b : List ℕ) → is_sound_tree t ≡ true → b ≡ written t → Spells t b
 written_is t b s e = subst (Spells t) (sym e) (written_forms t s).0

@@ -15,7 +15,7 @@ pub use codec::{
     no_small_form_begins_another, written_form, written_small_form,
 };
 pub use form::Form;
-pub use parts::{fault_at, raw_of, text_of};
+pub use parts::{fault_at, is_without_zero, raw_of, text_of, utf8_of};
 pub use reading::{small_of, value_of};
 pub use writing::{put, put_small};
 

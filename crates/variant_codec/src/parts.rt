@@ -88,14 +88,15 @@ pub fn bytes_of(bytes: &[u8]) -> Result<(&[u8], &[u8]), ReadError>
     padded_of(len, rest)
 }
 
-fn is_without_zero(bytes: &[u8]) -> bool
+/// Whether none of the bytes is zero.
+pub fn is_without_zero(bytes: &[u8]) -> bool
     ensures { result ≡ has_no_zero bytes.now }
 {
     bytes.iter().all(|b| *b != 0)
 }
 
 /// The bytes as UTF-8.
-fn utf8_of(bytes: &[u8]) -> Option<&str>
+pub fn utf8_of(bytes: &[u8]) -> Option<&str>
     ensures { MatchOption result (is_utf8 bytes.now ≡ false) (λ s. (is_utf8 bytes.now ≡ true) × (s.now ≡ bytes.now)) }
 {
     match std::str::from_utf8(bytes) {

@@ -1,11 +1,9 @@
-use Rattle.mp_replay.specs.Output.{read_in}
-use Rattle.mp_replay.proofs.Written.{all_behind, nothing, whole_lines}
-use Rattle.mp_replay.proofs.Runs.{unread_fresh, scene_ends}
+use Rattle.std.proofs.Common.{sym, ◌∙◌}
+use Rattle.mp_replay.proofs.Commands.{never_both}
 use Rattle.mp_replay.proofs.replay.run.Goals as goal
 
-pub returns-in-Err-clause-output : goal.returns-in-Err-clause-output
-returns-in-Err-clause-output g c = λ replay input held left put. whole_lines (read_in input) _ held (g.K.Sink.held c.args.sink.now) (all_behind (read_in input).lines) (nothing held (g.K.Sink.held c.args.sink.now) put)
+pub returns-then-is_show-clause-ends : goal.returns-then-is_show-clause-ends
+returns-then-is_show-clause-ends g c = λ replay. absurd (never_both c.args.words.now replay (sym c.is_show.ensures ∙ c.if-is_show.true))
 
-pub returns-in-Some-clause-output : goal.returns-in-Some-clause-output
-returns-in-Some-clause-output g c = λ replay input held left put.
-    scene_ends input held c.in-Some.status (g.K.Sink.held c.args.sink.now) put (c.in-Some.ensures.reads input (unread_fresh c.in-Ok.reader (g.S.Source.left c.args.source.now) input c.in-Ok.ensures left))
+pub returns-then-is_show-clause-output : goal.returns-then-is_show-clause-output
+returns-then-is_show-clause-output g c = λ replay input held left put. absurd (never_both c.args.words.now replay (sym c.is_show.ensures ∙ c.if-is_show.true))

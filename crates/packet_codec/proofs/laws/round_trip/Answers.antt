@@ -1,4 +1,4 @@
-use Rattle.packet_codec.proofs.Packets.{round_trip}
+use Rattle.packet_codec.proofs.Written.{round_trip}
 use Rattle.packet_codec.proofs.laws.round_trip.Goals as goal
 
 pub returns : goal.returns

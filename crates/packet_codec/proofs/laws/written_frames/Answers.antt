@@ -1,4 +1,4 @@
-use Rattle.packet_codec.proofs.Packets.{written_frames}
+use Rattle.packet_codec.proofs.Written.{written_frames}
 use Rattle.packet_codec.proofs.laws.written_frames.Goals as goal
 
 pub returns : goal.returns

@@ -1,7 +1,7 @@
 use Rattle.std.proofs.Common.{◌≡◌, sym, ap, ◌∙◌, arith}
 use Rattle.session_text.specs.Lines.{Reader, is_line_feed}
 use Rattle.session_text.proofs.Prefixes.{position-none}
-use Rattle.session_text.proofs.FirstLines.{line_read, feed_too_far, held_too_long, nothing_left, last_line}
+use Rattle.session_text.proofs.FirstLines.{line_read, feed_too_far, held_too_long, nothing_left, last_read}
 use Rattle.session_text.proofs.lines.LineReader.ready.Goals as goal
 
 bytes_of : {r s : Reader} → r ≡ s → r.bytes ≡ s.bytes
@@ -61,7 +61,7 @@ returns-in_ok-split_line-in-None-4-clause-settles c =
     record {
       most = most_of after ∙ most_of same;
       ended = ended_of after ∙ ended_of same;
-      line = λ rest ended. last_line _ c.held-held.result _ _ _ rest _ (bytes_of same) c.held-held.ensures c.in-None.ensures.place (omega (arith, c.if-held-eq0.false)) (omega (arith, c.if-held-most.false)) (ended (sym (ended_of c.self.view_is) ∙ c.if-not-ended.false)) c.in_ok-split_line-in-None-4.ensures.line (bytes_of after);
+      line = λ rest ended. last_read _ c.held-held.result _ _ _ rest _ (bytes_of same) c.held-held.ensures c.in-None.ensures.place (omega (arith, c.if-held-eq0.false)) (omega (arith, c.if-held-most.false)) (ended (sym (ended_of c.self.view_is) ∙ c.if-not-ended.false)) c.in_ok-split_line-in-None-4.ensures.line (bytes_of after);
     }
 
 pub returns-in-None-2-clause-settles : goal.returns-in-None-2-clause-settles

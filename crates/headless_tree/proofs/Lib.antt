@@ -1,0 +1,6 @@
+pub mod Places
+pub mod Changes
+pub mod Spots
+pub mod Paths
+pub mod Rows
+pub mod Made

@@ -1,0 +1,159 @@
+//! A tree of a scene, and a tree with one node more.
+ghost use Rattle.std.specs.Prelude.{◌≡◌, ◌<◌, ◌≤◌, IfOk, OnOk, OnErr, MatchResult, None, length};
+ghost use Rattle.std.specs.List.{prefix_len};
+ghost use Rattle.gd_variant.specs.Text.{HasNoZero};
+ghost use Rattle.gd_variant.specs.Words.{put_by};
+ghost use Rattle.scene_model.specs.Valid.{IsValidScene};
+ghost use Rattle.scene_model.specs.Lookup.{scene_at};
+ghost use Rattle.scene_model.specs.Paths.{joined as joined_of};
+ghost use Rattle.peer_model.specs.Updates.{live_at, fixed_live};
+ghost use Rattle.peer_model.specs.Values.{props_in};
+ghost use Rattle.headless_tree.specs.declared.node.NodeNow.{NodeNow as NodeOf};
+ghost use Rattle.headless_tree.specs.Nodes.{live, fixed_nodes, row_before, spawned_node, insert_no, IsRefused};
+
+use super::Tree;
+use super::paths::{joined, put_path};
+use crate::node::{NodeNow, TreeNo};
+use crate::values::Values;
+use gd_variant::{IdList, OutOfMemory, Text};
+use indexmap::IndexSet;
+use scene_model::{Node, Scene, TryClone};
+use sqlite_items::Items;
+use std::alloc::Global;
+
+fn fixed(alloc: Global, node: &Node) -> Result<NodeNow, OutOfMemory>
+    ensures { IfOk result (λ n. live n ≡ fixed_live node.now) }
+{
+    Ok(NodeNow {
+        path: node.path.try_clone(alloc)?,
+        auth: node.auth,
+        num: 0,
+        ids: Items::new(alloc),
+        scene: None,
+        values: Values::from_slice(alloc, node.props.as_slice())?,
+    })
+}
+
+fn stands_before(node: &NodeNow, other: &NodeNow) -> bool
+    ensures { result ≡ row_before (live node.now) (live other.now) }
+{
+    node.scene.is_none()
+        || node.auth < other.auth
+        || (node.auth == other.auth && node.num < other.num)
+}
+
+fn count_before(nodes: &[NodeNow], node: &NodeNow) -> usize
+    ensures count { result ≡ prefix_len (λ (m : NodeOf). row_before (live m) (live node.now)) nodes.now }
+    ensures within { result ≤ length nodes.now }
+{
+    nodes
+        .iter()
+        .take_while(|other| stands_before(other, node))
+        .count()
+}
+
+impl Tree {
+    /// The fixed nodes of a scene with their defaults.
+    pub fn new(alloc: Global, scene: &Scene) -> Result<Tree, OutOfMemory>
+        requires { IsValidScene scene.now }
+        ensures { IfOk result (λ t. t ≡ record { scene = scene.now; nodes = fixed_nodes scene.now }) }
+    {
+        let mut nodes = Vec::new(alloc);
+        let mut paths = IndexSet::new(alloc);
+        for (at, node) in scene.nodes.as_slice().iter().enumerate() {
+            put_path(alloc, &mut paths, at, &node.path)?;
+            nodes.push(fixed(alloc, node)?)?;
+        }
+        let scene = scene.try_clone(alloc)?;
+        Ok(Tree {
+            scene,
+            nodes,
+            paths,
+        })
+    }
+
+    /// The path of a new node, where its parent is there and the path is free.
+    fn new_path(&self, alloc: Global, under: &str, name: &str) -> Result<Text, TreeNo>
+        requires under { HasNoZero under.now }
+        requires name { HasNoZero name.now }
+        ensures { MatchResult result (λ p. (p ≡ joined_of under.now name.now) × (insert_no self.now.nodes under.now name.now ≡ None)) (λ e. IsRefused (insert_no self.now.nodes under.now name.now) e) }
+    {
+        match self.node_at(under) {
+            Some(_) => match joined(alloc, under, name) {
+                Ok(path) => match self.node_at(path.as_str()) {
+                    Some(_) => Err(TreeNo::NameTaken),
+                    None => Ok(path),
+                },
+                Err(_) => Err(TreeNo::OutOfMemory),
+            },
+            None => Err(TreeNo::NoNode),
+        }
+    }
+
+    fn copies(
+        &self,
+        alloc: Global,
+        ids: &IdList,
+        scene: u32,
+    ) -> Result<(IdList, Values), OutOfMemory>
+        requires { scene < length self.now.scene.scenes }
+        ensures { IfOk result (λ p. (p.0 ≡ ids.now) × (p.1 ≡ props_in (scene_at self.now.scene scene))) }
+    {
+        let ids = Items::from_slice(alloc, ids.as_slice())?;
+        let def = &self.scene.scenes.as_slice()[scene as usize];
+        let values = Values::from_slice(alloc, def.props.as_slice())?;
+        Ok((ids, values))
+    }
+
+    fn add(&mut self, alloc: Global, node: NodeNow) -> Result<(), OutOfMemory>
+        requires { live_at self.old.nodes node.path ≡ None }
+        ensures ok { OnOk result (self.new ≡ record self.old { nodes = put_by row_before (live node) self.old.nodes }) }
+        ensures err { OnErr result (self.new ≡ self.old) }
+    {
+        self.nodes.reserve(1)?;
+        let at = count_before(self.nodes.as_slice(), &node);
+        put_path(alloc, &mut self.paths, at, &node.path)?;
+        match self.nodes.insert(at, node) {
+            Ok(()) => Ok(()),
+            Err(_) => unreachable!(),
+        }
+    }
+
+    /// Adds a node with the defaults of the scene at a place below another node.
+    pub fn insert(
+        &mut self,
+        alloc: Global,
+        under: &str,
+        name: &str,
+        auth: i32,
+        num: u32,
+        ids: &IdList,
+        scene: u32,
+    ) -> Result<(), TreeNo>
+        requires under { HasNoZero under.now }
+        requires name { HasNoZero name.now }
+        requires scene { scene < length self.old.scene.scenes }
+        ensures { MatchResult result (λ _. (insert_no self.old.nodes under.now name.now ≡ None) × (self.new ≡ record self.old { nodes = put_by row_before (spawned_node self.old.scene (joined_of under.now name.now) auth num ids.now scene) self.old.nodes })) (λ e. IsRefused (insert_no self.old.nodes under.now name.now) e × (self.new ≡ self.old)) }
+    {
+        match self.new_path(alloc, under, name) {
+            Ok(path) => match self.copies(alloc, ids, scene) {
+                Ok((ids, values)) => {
+                    let node = NodeNow {
+                        path,
+                        auth,
+                        num,
+                        ids,
+                        scene: Some(scene),
+                        values,
+                    };
+                    match self.add(alloc, node) {
+                        Ok(()) => Ok(()),
+                        Err(_) => Err(TreeNo::OutOfMemory),
+                    }
+                }
+                Err(_) => Err(TreeNo::OutOfMemory),
+            },
+            Err(why) => Err(why),
+        }
+    }
+}

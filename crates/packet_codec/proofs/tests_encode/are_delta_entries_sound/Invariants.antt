@@ -1,0 +1,8 @@
+use Rattle.std.proofs.Common.{take}
+use Rattle.std.specs.List.{AllByRecursion}
+use Rattle.packet_codec.specs.Written.{IsDeltaEntrySound}
+use Rattle.packet_codec.proofs.tests_encode.are_delta_entries_sound.Given as goal
+
+-- the entries in front are sound
+abbrev pub invariant-loop-entry : goal.invariant-loop-entry
+invariant-loop-entry l = AllByRecursion IsDeltaEntrySound (take l.entry-index l.entries)

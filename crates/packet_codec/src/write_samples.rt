@@ -1,0 +1,84 @@
+//! The packets of samples and changes, written: Sync and Delta.
+ghost use Rattle.std.specs.Prelude.{◌≡◌, ◌++◌, ◌≤◌, ◌<◌, ◌^◌, length, OnOk};
+ghost use Rattle.std.specs.Int.{w8, w16};
+ghost use Rattle.std.specs.List.{flat_map, AllByRecursion};
+ghost use Rattle.byte_fields.specs.Fields.{word};
+ghost use Rattle.packet_codec.specs.Packets.{most_bytes};
+ghost use Rattle.packet_codec.specs.Written.{entry_bytes, delta_entry_bytes, IsEntrySound, IsDeltaEntrySound, FitsEntry, FitsDeltaEntry};
+
+use crate::put::put_sized;
+use byte_fields::{put_u8, put_u16, put_u32, put_u64};
+use gd_variant::{DeltaEntry, Entry};
+use std::alloc::AllocError;
+
+#[tactic(auto, using(crate::proofs::Lengths::entry_size), unfolding(crate::specs::Written::entry_bytes))]
+fn put_entry(out: &mut Vec<u8>, entry: &Entry) -> Result<(), AllocError>
+    requires { length (entry_bytes entry.now) ≤ most_bytes }
+    ensures fits { OnOk result (entry.now.id < 2 ^ 32) }
+    ensures put { OnOk result (out.new.items ≡ out.old.items ++ entry_bytes entry.now) }
+{
+    put_u32(out, entry.id)?;
+    put_sized(out, entry.values.as_slice())
+}
+
+#[tactic(auto, using(crate::proofs::Lengths::delta_entry_size), unfolding(crate::specs::Written::delta_entry_bytes))]
+fn put_delta_entry(out: &mut Vec<u8>, entry: &DeltaEntry) -> Result<(), AllocError>
+    requires { length (delta_entry_bytes entry.now) ≤ most_bytes }
+    ensures id_fits { OnOk result (entry.now.id < 2 ^ 32) }
+    ensures mask_fits { OnOk result (entry.now.mask < 2 ^ 64) }
+    ensures put { OnOk result (out.new.items ≡ out.old.items ++ delta_entry_bytes entry.now) }
+{
+    put_u32(out, entry.id)?;
+    put_u64(out, entry.mask)?;
+    put_sized(out, entry.values.as_slice())
+}
+
+fn put_entries(out: &mut Vec<u8>, entries: &[Entry]) -> Result<(), AllocError>
+    requires sound { AllByRecursion IsEntrySound entries.now }
+    requires short { length (flat_map entry_bytes entries.now) ≤ most_bytes }
+    ensures fit { OnOk result (AllByRecursion FitsEntry entries.now) }
+    ensures put { OnOk result (out.new.items ≡ out.old.items ++ flat_map entry_bytes entries.now) }
+{
+    for entry in entries {
+        put_entry(out, entry)?;
+    }
+    Ok(())
+}
+
+fn put_delta_entries(out: &mut Vec<u8>, entries: &[DeltaEntry]) -> Result<(), AllocError>
+    requires sound { AllByRecursion IsDeltaEntrySound entries.now }
+    requires short { length (flat_map delta_entry_bytes entries.now) ≤ most_bytes }
+    ensures fit { OnOk result (AllByRecursion FitsDeltaEntry entries.now) }
+    ensures put { OnOk result (out.new.items ≡ out.old.items ++ flat_map delta_entry_bytes entries.now) }
+{
+    for entry in entries {
+        put_delta_entry(out, entry)?;
+    }
+    Ok(())
+}
+
+/// Puts a sample at the end.
+#[tactic(auto, using(crate::proofs::Lengths::byte_front, crate::proofs::Lengths::half_front))]
+pub fn put_sync(out: &mut Vec<u8>, tick: u16, entries: &[Entry]) -> Result<(), AllocError>
+    requires sound { AllByRecursion IsEntrySound entries.now }
+    requires short { length (word w8 6 ++ (word w16 tick ++ flat_map entry_bytes entries.now)) ≤ most_bytes }
+    ensures tick_fits { OnOk result (tick < 2 ^ 16) }
+    ensures fit { OnOk result (AllByRecursion FitsEntry entries.now) }
+    ensures put { OnOk result (out.new.items ≡ out.old.items ++ (word w8 6 ++ (word w16 tick ++ flat_map entry_bytes entries.now))) }
+{
+    put_u8(out, 6)?;
+    put_u16(out, tick)?;
+    put_entries(out, entries)
+}
+
+/// Puts changes at the end.
+#[tactic(auto, using(crate::proofs::Lengths::byte_front))]
+pub fn put_delta(out: &mut Vec<u8>, entries: &[DeltaEntry]) -> Result<(), AllocError>
+    requires sound { AllByRecursion IsDeltaEntrySound entries.now }
+    requires short { length (word w8 22 ++ flat_map delta_entry_bytes entries.now) ≤ most_bytes }
+    ensures fit { OnOk result (AllByRecursion FitsDeltaEntry entries.now) }
+    ensures put { OnOk result (out.new.items ≡ out.old.items ++ (word w8 22 ++ flat_map delta_entry_bytes entries.now)) }
+{
+    put_u8(out, 22)?;
+    put_delta_entries(out, entries)
+}
