@@ -1,11 +1,10 @@
 -- Lists with one element changed, taken away or put in.
-use Rattle.std.proofs.Common.{◌≡◌, ℕ, zero, suc, ◌+◌, ◌<◌, Bool, true, false, cond, not, List, [], ◌∷◌, ◌++◌, refl, sym, ap, ap₂, ◌∙◌, length, get_or, map, take, drop, Option, Some, None, arith}
+use Rattle.std.proofs.Common.{◌≡◌, ℕ, zero, suc, ◌+◌, ◌<◌, Bool, true, false, cond, not, List, [], ◌∷◌, ◌++◌, refl, sym, ap, ap₂, ◌∙◌, length, get_or, map, take, drop, Some, None, arith}
 use Rattle.std.specs.Prelude.{slice_get, option_map}
-use Rattle.std.specs.List.{position_or_len, prefix_len, insert, remove, slice_set}
+use Rattle.std.specs.List.{position_or_len, insert, remove, slice_set}
 use Rattle.std.specs.Option.{option_map_or}
 use Rattle.std.proofs.lemmas.List.{map-append, map-set}
 use Rattle.std.proofs.lemmas.Option.{slice_get-map, slice_get-get_or}
-use Rattle.gd_variant.specs.Words.{put_by}
 use Rattle.headless_tree.specs.Lists.{change_at, change_first, without_first}
 
 one_more : (n : ℕ) → 1 + n ≡ suc n

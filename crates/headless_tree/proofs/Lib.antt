@@ -1,6 +1,10 @@
 pub mod Places
+pub mod Numbered
+pub mod Keeping
+pub mod Order
+pub mod Search
 pub mod Changes
 pub mod Spots
 pub mod Paths
-pub mod Rows
 pub mod Made
+pub mod Rows

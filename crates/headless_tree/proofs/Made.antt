@@ -1,12 +1,10 @@
 -- A tree that is made of a scene, and a node put among the nodes.
-use Rattle.std.proofs.Common.{◌≡◌, ℕ, zero, suc, ◌+◌, ◌<◌, ◌≤◌, Bool, true, false, cond, ◌||◌, List, [], ◌∷◌, ◌++◌, refl, sym, ap, ap₂, subst, ◌∙◌, length, get_or, map, take, drop, Option, Some, None, is_some, arith}
-use Rattle.std.specs.Prelude.{find}
+use Rattle.std.proofs.Common.{◌≡◌, ℕ, ◌+◌, ◌<◌, ◌≤◌, Bool, true, false, cond, List, [], ◌∷◌, ◌++◌, refl, sym, ap, ap₂, ◌∙◌, length, get_or, map, take, Option, Some, None, is_some, arith}
 use Rattle.std.specs.List.{insert, list_any, prefix_len}
 use Rattle.std.proofs.lemmas.List.{map-append, length-map, length-take-le, take_more, take_all}
 use Rattle.gd_variant.specs.Words.{text_eq, has_text, when, first_of, first_some, with_earlier, put_by}
 use Rattle.scene_model.specs.declared.scene.Scene.{Scene}
 use Rattle.scene_model.specs.declared.scene.Node.{Node}
-use Rattle.scene_model.specs.declared.scene.SceneBad.{SceneBad}
 use Rattle.scene_model.specs.declared.scene.SceneWhy.{SceneWhy}
 use Rattle.scene_model.specs.declared.scene.SceneWhy.TheVariants.{NamePath, TwoNodes}
 use Rattle.scene_model.specs.Valid.{first_bad, node_why, scene_why, path_wrong, IsValidScene}
@@ -14,9 +12,14 @@ use Rattle.scene_model.proofs.EntryLaws.{bad_from, bad_here, bad_later}
 use Rattle.scene_model.proofs.ListLaws.{any_ext, any-map, found_is_any}
 use Rattle.scene_model.proofs.TextLaws.{text_eq-sym}
 use Rattle.peer_model.specs.Updates.{Live, fixed_live, live_at}
+use Rattle.peer_model.proofs.Lists.{put_is_insert}
 use Rattle.headless_tree.specs.declared.node.NodeNow.{NodeNow}
 use Rattle.headless_tree.specs.Nodes.{TreeOf, live, is_at, row_before, fixed_nodes}
+use Rattle.headless_tree.specs.Numbers.{Paths, is_numbered, has_paths_once}
+use Rattle.headless_tree.specs.Order.{are_in_order}
 use Rattle.headless_tree.proofs.Changes.{map-insert}
+use Rattle.headless_tree.proofs.Order.{order_fixed}
+use Rattle.headless_tree.proofs.Numbered.{once_insert, fixed_numbered}
 
 -- entries of a valid scene
 
@@ -44,12 +47,14 @@ pub record IsMade {K : Type 0} (bytes : K → List ℕ) (s : Scene) (at : ℕ) (
   pub left : bad_from (node_why s) at s.nodes ≡ None
   pub nodes : map live items ≡ map fixed_live (take at s.nodes)
   pub paths : map bytes keys ≡ map (λ (n : NodeNow). n.path) items
+  pub once : has_paths_once (map live items) ≡ true
 
 pub made_starts : {K : Type 0} (bytes : K → List ℕ) (s : Scene) (items : List NodeNow) (keys : List K) → IsValidScene s → items ≡ [] → keys ≡ [] → IsMade bytes s 0 items keys
 made_starts bytes s items keys valid no_items no_keys = record {
   left = first_none (first_bad (node_why s) (with_earlier [] s.nodes)) (first_bad scene_why (with_earlier [] s.scenes)) valid;
   nodes = ap (map live) no_items;
   paths = ap (map bytes) no_keys ∙ sym (ap (map (λ (n : NodeNow). n.path)) no_items);
+  once = ap (λ (xs : List NodeNow). has_paths_once (map live xs)) no_items;
 }
 
 made_count : {K : Type 0} (bytes : K → List ℕ) (s : Scene) (at : ℕ) (items : List NodeNow) (keys : List K) → at ≤ length s.nodes → IsMade bytes s at items keys → length (map bytes keys) ≡ at
@@ -71,10 +76,11 @@ fresh_path bytes keys items path same none =
     ∙ sym (any-map (is_at path) live items)
     ∙ none
 
+made_new : {K : Type 0} (bytes : K → List ℕ) (s : Scene) (at : ℕ) (items : List NodeNow) (keys : List K) (n : Node) → at < length s.nodes → n ≡ get_or s.nodes at n → IsMade bytes s at items keys → list_any (is_at n.path) (map live items) ≡ false
+made_new bytes s at items keys n low is m = ap (list_any (is_at n.path)) m.nodes ∙ any-map (is_at n.path) fixed_live (take at s.nodes) ∙ path_is_new s at n (right_at (node_why s) s.nodes at n low is m.left)
+
 pub made_fresh : {K : Type 0} (bytes : K → List ℕ) (s : Scene) (at : ℕ) (items : List NodeNow) (keys : List K) (n : Node) → at < length s.nodes → n ≡ get_or s.nodes at n → IsMade bytes s at items keys → has_text n.path (map bytes keys) ≡ false
-made_fresh bytes s at items keys n low is m =
-    fresh_path bytes keys items n.path m.paths
-    (ap (list_any (is_at n.path)) m.nodes ∙ any-map (is_at n.path) fixed_live (take at s.nodes) ∙ path_is_new s at n (right_at (node_why s) s.nodes at n low is m.left))
+made_fresh bytes s at items keys n low is m = fresh_path bytes keys items n.path m.paths (made_new bytes s at items keys n low is m)
 
 put_last : {X : Type 0} (xs : List X) (x : X) → insert xs (length xs) x ≡ xs ++ x ∷ []
 put_last [] x = refl
@@ -91,10 +97,19 @@ made_more bytes s at items more keys new n m low is h same e put = record {
       put ∙ ap (λ k. insert (map bytes keys) k n.path) (sym (made_count bytes s at items keys (omega (arith, low)) h)) ∙ put_last (map bytes keys) n.path
       ∙ ap₂ (λ (xs : List (List ℕ)) (x : List ℕ). xs ++ x ∷ []) h.paths (sym (ap (λ (l : Live). l.path) same))
       ∙ sym (ap (map (λ (x : NodeNow). x.path)) e ∙ map-append (λ (x : NodeNow). x.path) items (m ∷ []));
+  once =
+      ap has_paths_once (ap (map live) e ∙ map-append live items (m ∷ []) ∙ sym (put_last (map live items) (live m)))
+      ∙ once_insert (map live items) (length (map live items)) (live m) (ap (λ (l : Live). list_any (is_at l.path) (map live items)) same ∙ made_new bytes s at items keys n low is h) h.once;
 }
 
 pub made_all : {K : Type 0} (bytes : K → List ℕ) (s : Scene) (at : ℕ) (items : List NodeNow) (keys : List K) → length s.nodes ≤ at → IsMade bytes s at items keys → map live items ≡ fixed_nodes s
 made_all bytes s at items keys past m = m.nodes ∙ ap (map fixed_live) (take_all at s.nodes past)
+
+pub made_numbered : {K : Type 0} (bytes : K → List ℕ) (s : Scene) (at : ℕ) (items : List NodeNow) (keys : List K) (ps : Paths) → IsMade bytes s at items keys → is_numbered ps (map live items) ≡ true
+made_numbered bytes s at items keys ps m = ap (is_numbered ps) m.nodes ∙ fixed_numbered ps (take at s.nodes)
+
+pub made_in_order : {K : Type 0} (bytes : K → List ℕ) (s : Scene) (at : ℕ) (items : List NodeNow) (keys : List K) → IsMade bytes s at items keys → are_in_order (map live items) ≡ true
+made_in_order bytes s at items keys m = ap are_in_order m.nodes ∙ order_fixed (take at s.nodes)
 
 -- a node more
 
@@ -105,24 +120,17 @@ pub paths_put_in : {K : Type 0} (bytes : K → List ℕ) (keys new : List K) (it
 paths_put_in bytes keys new items more at n same put e =
     put ∙ ap (λ (ts : List (List ℕ)). insert ts at n.path) same ∙ sym (map-insert (λ (m : NodeNow). m.path) items at n) ∙ ap (map (λ (m : NodeNow). m.path)) (sym e)
 
-prefix-map : {X Y : Type 0} (f : X → Y) (p : Y → Bool) (xs : List X) → prefix_len (λ x. p (f x)) xs ≡ prefix_len p (map f xs)
+pub prefix-map : {X Y : Type 0} (f : X → Y) (p : Y → Bool) (xs : List X) → prefix_len (λ x. p (f x)) xs ≡ prefix_len p (map f xs)
 prefix-map f p [] = refl
 prefix-map f p (x ∷ xs) = ap (λ n. cond (p (f x)) (1 + n) 0) (prefix-map f p xs)
 
-put_place : {X : Type 0} (b : Bool) (x y : X) (ys : List X) (n : ℕ) (zs : List X) → insert ys n x ≡ zs → insert (y ∷ ys) (cond b (1 + n) 0) x ≡ cond b (y ∷ zs) (x ∷ y ∷ ys)
-put_place true x y ys n zs h = rw one_more (ap (λ ws. y ∷ ws) h)
-  where
-    one_more : 1 + n ≡ suc n
-    one_more = omega arith
-put_place false x y ys n zs h = refl
-
-put_is_insert : {X : Type 0} (before : X → X → Bool) (x : X) (ys : List X) → insert ys (prefix_len (λ y. before y x) ys) x ≡ put_by before x ys
-put_is_insert before x [] = refl
-put_is_insert before x (y ∷ ys) = put_place (before y x) x y ys (prefix_len (λ z. before z x) ys) (put_by before x ys) (put_is_insert before x ys)
+-- the nodes with one more, as the definitions put it
+pub put_seen : (items more : List NodeNow) (at : ℕ) (n : NodeNow) → more ≡ insert items at n → at ≡ prefix_len (λ (m : NodeNow). row_before (live m) (live n)) items → map live more ≡ put_by row_before (live n) (map live items)
+put_seen items more at n e place = ap (map live) e ∙ map-insert live items at n ∙ ap (λ k. insert (map live items) k (live n)) (place ∙ prefix-map live (λ m. row_before m (live n)) items) ∙ put_is_insert row_before (live n) (map live items)
 
 pub put_in : (t : TreeOf) (s : Scene) (items more : List NodeNow) (at : ℕ) (n : NodeNow) → ◌≡◌ {A = TreeOf} (record { scene = s; nodes = map live items }) t → more ≡ insert items at n → at ≡ prefix_len (λ (m : NodeNow). row_before (live m) (live n)) items
     → ◌≡◌ {A = TreeOf} (record { scene = s; nodes = map live more }) (record { scene = t.scene; nodes = put_by row_before (live n) t.nodes })
 put_in t s items more at n view e place =
     ap {B = TreeOf} (λ (ns : List Live). record { scene = s; nodes = ns })
-    (ap (map live) e ∙ map-insert live items at n ∙ ap (λ k. insert (map live items) k (live n)) (place ∙ prefix-map live (λ m. row_before m (live n)) items) ∙ put_is_insert row_before (live n) (map live items))
+    (put_seen items more at n e place)
     ∙ ap {B = TreeOf} (λ (u : TreeOf). record { scene = u.scene; nodes = put_by row_before (live n) u.nodes }) view

@@ -1,10 +1,10 @@
 -- Assignments: from the places of a node and its property to the first ones with their path and name.
-use Rattle.std.proofs.Common.{◌≡◌, ℕ, ◌<◌, Bool, true, false, cond, not, List, [], ◌∷◌, refl, sym, ap, ap₂, subst, ◌∙◌, length, get_or, map, Option, Some, None, is_some, IfSome}
+use Rattle.std.proofs.Common.{◌≡◌, ℕ, ◌<◌, Bool, true, false, cond, not, List, [], ◌∷◌, refl, sym, ap, ap₂, subst, ◌∙◌, length, get_or, map, Some, None, is_some, IfSome}
 use Rattle.std.specs.Prelude.{find, position, slice_get, option_map, remove, is_none}
-use Rattle.std.specs.List.{slice_set, list_any, position_or_len}
+use Rattle.std.specs.List.{slice_set}
 use Rattle.std.proofs.lemmas.List.{length-map}
 use Rattle.std.proofs.Math.Seq.{map-set_same}
-use Rattle.std.proofs.lemmas.Option.{slice_get-map, slice_get-get_or, slice_get_within}
+use Rattle.std.proofs.lemmas.Option.{slice_get-get_or}
 use Rattle.gd_variant.specs.Words.{text_eq, first_of, when, some_is}
 use Rattle.gd_variant.specs.declared.value.Variant.{Variant}
 use Rattle.scene_model.specs.declared.scene.Scene.{Scene}
@@ -14,11 +14,11 @@ use Rattle.scene_model.proofs.TextLaws.{text_eq-sym}
 use Rattle.scene_model.proofs.ListLaws.{any_ext, any-map, found_is_any}
 use Rattle.peer_model.specs.Updates.{Live, live_at}
 use Rattle.headless_tree.specs.declared.node.NodeNow.{NodeNow}
-use Rattle.headless_tree.specs.declared.node.TreeNo.{TreeNo}
 use Rattle.headless_tree.specs.declared.node.TreeNo.TheVariants.{NoNode, NoProp, ValueTooLong}
 use Rattle.headless_tree.specs.Lists.{change_at, change_first, without_first}
 use Rattle.headless_tree.specs.Nodes.{TreeOf, live, is_at, with_value, is_long, lacks_prop, assign_no, assigned, assigned_at, IsSpot, has_spawned, without_spawned, is_spawned}
 use Rattle.headless_tree.proofs.Places.{first_is, found_at, not_found, found_within, get_some, node_there}
+use Rattle.headless_tree.proofs.Numbered.{bare}
 use Rattle.headless_tree.proofs.Changes.{remove_first, change_by_place, change_same, changed, map-remove}
 
 -- whether a property is there, by its place
@@ -80,6 +80,16 @@ written t s nodes place prop value n vs same low is new =
 
 pub paths_stay : (nodes : List NodeNow) (place : ℕ) (n : NodeNow) (vs : List Prop) → n ≡ get_or nodes place n → map (λ (m : NodeNow). m.path) (slice_set nodes place (record n { values = vs })) ≡ map (λ (m : NodeNow). m.path) nodes
 paths_stay nodes place n vs is = map-set_same (λ (m : NodeNow). m.path) nodes place (record n { values = vs }) n (ap (λ (m : NodeNow). m.path) is)
+
+bare_nodes : (nodes : List NodeNow) → map bare (map live nodes) ≡ map (λ (n : NodeNow). bare (live n)) nodes
+bare_nodes [] = refl
+bare_nodes (n ∷ ns) = ap (λ (ms : List Live). bare (live n) ∷ ms) (bare_nodes ns)
+
+pub only_values : (nodes : List NodeNow) (place : ℕ) (n : NodeNow) (vs : List Prop) → n ≡ get_or nodes place n → map bare (map live (slice_set nodes place (record n { values = vs }))) ≡ map bare (map live nodes)
+only_values nodes place n vs is =
+    bare_nodes (slice_set nodes place (record n { values = vs }))
+    ∙ map-set_same (λ (m : NodeNow). bare (live m)) nodes place (record n { values = vs }) n (ap (λ (m : NodeNow). bare (live m)) is)
+    ∙ sym (bare_nodes nodes)
 
 pub low_in : (t : TreeOf) (s : Scene) (nodes : List NodeNow) (i : ℕ) → ◌≡◌ {A = TreeOf} (record { scene = s; nodes = map live nodes }) t → i < length t.nodes → i < length nodes
 low_in t s nodes i same low = subst (λ n. i < n) (ap (λ (u : TreeOf). length u.nodes) (sym same) ∙ length-map nodes live) low

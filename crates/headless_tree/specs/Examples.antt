@@ -1,12 +1,12 @@
 -- A small tree, and what the definitions make of it: the fixed nodes s and b, and spawned nodes below s.
-use Rattle.std.specs.Prelude.{◌≡◌, ℕ, ℤ, pos, List, [], ◌∷◌, Some, None}
+use Rattle.std.specs.Prelude.{◌≡◌, ℕ, ℤ, true, false, pos, List, [], ◌∷◌, Some, None}
 use Rattle.gd_variant.specs.Words.{put_by}
-use Rattle.gd_variant.specs.declared.value.Variant.{Variant}
 use Rattle.gd_variant.specs.declared.value.Variant.TheVariants.{Int}
 use Rattle.scene_model.specs.declared.scene.Prop.{Prop}
 use Rattle.peer_model.specs.Updates.{Live}
 use Rattle.headless_tree.specs.declared.node.TreeNo.TheVariants.{NoNode, NameTaken, NoProp}
-use Rattle.headless_tree.specs.Nodes.{row_before, insert_no, assign_no, assigned, has_spawned, without_spawned, without_rows, value_at}
+use Rattle.headless_tree.specs.Order.{are_in_order}
+use Rattle.headless_tree.specs.Nodes.{row_before, insert_no, assign_no, assigned, without_spawned, without_rows, value_at}
 
 -- the properties of a node with one: v
 abbrev pub one : ℕ → List Prop
@@ -34,6 +34,13 @@ GoesByNumber = put_by row_before (below_s (pos 1) 3 113 0) (fixed_s ∷ fixed_b 
 -- and before those of a later authority, also with a greater number
 abbrev pub GoesByAuthority : Type 0
 GoesByAuthority = put_by row_before (below_s (pos 2) 1 122 0) (fixed_s ∷ fixed_b ∷ below_s (pos 1) 1 112 0 ∷ below_s (pos 1) 3 113 0 ∷ []) ≡ small_tree
+
+-- so the nodes stand in order, and those of a later authority don't stand first
+abbrev pub InOrder : Type 0
+InOrder = are_in_order small_tree ≡ true
+
+abbrev pub OutOfOrder : Type 0
+OutOfOrder = are_in_order (below_s (pos 2) 1 122 0 ∷ below_s (pos 1) 3 113 0 ∷ []) ≡ false
 
 -- no node below one that isn't there, and none at a path that is taken
 abbrev pub NoParent : Type 0

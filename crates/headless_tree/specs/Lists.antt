@@ -1,5 +1,5 @@
 -- Lists with one element changed or taken away.
-use Rattle.std.specs.Prelude.{ℕ, Bool, cond, List, [], ◌∷◌, Option, slice_get}
+use Rattle.std.specs.Prelude.{ℕ, Bool, cond, List, [], ◌∷◌, slice_get}
 use Rattle.std.specs.List.{slice_set}
 use Rattle.std.specs.Option.{option_map_or}
 

@@ -1,7 +1,7 @@
 -- The tree of nodes: which nodes stand in it, and what each call makes of them.
-use Rattle.std.specs.Prelude.{◌≡◌, ℕ, ℤ, Bool, not, ◌&&◌, ◌||◌, cond, List, [], ◌∷◌, map, filter, length, Option, Some, option_and_then, is_none, is_some, nat_eq, nat_le, nat_lt, int_lt, slice_get, position}
+use Rattle.std.specs.Prelude.{◌≡◌, ℕ, ℤ, Bool, not, ◌&&◌, ◌||◌, cond, List, [], ◌∷◌, map, filter, length, Option, Some, option_and_then, is_none, is_some, nat_le, nat_lt, int_lt, slice_get, position}
 use Rattle.std.specs.Ordering.{int_eq}
-use Rattle.gd_variant.specs.Words.{text_eq, has_nat, some_is, when, first_of, put_by}
+use Rattle.gd_variant.specs.Words.{text_eq, some_is, when, first_of}
 use Rattle.gd_variant.specs.Size.{value_size}
 use Rattle.gd_variant.specs.declared.value.Variant.{Variant}
 use Rattle.scene_model.specs.declared.scene.Scene.{Scene}

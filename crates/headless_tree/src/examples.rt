@@ -1,9 +1,11 @@
 //! The definitions on a small tree, as equations.
-ghost use Rattle.headless_tree.specs.Examples.{GoesByNumber, GoesByAuthority, NoParent, TakenPath, FreePath, FixedStays, SpawnedGoes, RowsGo, OneChanges, ValueIsThere, LacksProperty};
+ghost use Rattle.headless_tree.specs.Examples.{GoesByNumber, GoesByAuthority, InOrder, OutOfOrder, NoParent, TakenPath, FreePath, FixedStays, SpawnedGoes, RowsGo, OneChanges, ValueIsThere, LacksProperty};
 
 fn nodes_go_by_authority_and_number()
     ensures number { GoesByNumber }
     ensures authority { GoesByAuthority }
+    ensures order { InOrder }
+    ensures disorder { OutOfOrder }
 {}
 
 fn new_paths_are_free_below_a_node()

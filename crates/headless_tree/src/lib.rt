@@ -4,6 +4,7 @@
 #[cfg(test)]
 mod examples;
 mod node;
+mod numbers;
 #[cfg(test)]
 mod tests;
 mod tree;

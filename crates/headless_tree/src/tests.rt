@@ -98,6 +98,9 @@ fn add(
     if ids.push(row.1 | 1024).is_err() {
         return Err(TreeNo::OutOfMemory);
     }
+    if !tree.are_new(row.0, row.1, &ids) {
+        return Err(TreeNo::OutOfMemory);
+    }
     tree.insert(alloc, under, name, row.0, row.1, &ids, 0)
 }
 
@@ -202,5 +205,39 @@ fn values_are_assigned_where_they_fit(rt: HostRuntime) -> Result<(), OutOfMemory
         let value = Variant::PackedBytes(Bytes::from_vec(long));
         assert_eq!(rt; tree.assign("b", "hp", value), want, "{bytes}");
     }
+    Ok(())
+}
+
+/// Whether each number of an authority leads to the place, or to none where the place is 99.
+fn are_placed(tree: &Tree, rows: &[(i32, u32, usize)]) -> bool {
+    for (auth, id, want) in rows {
+        if tree.row_of(*auth, *id).unwrap_or(99) != *want {
+            return false;
+        }
+    }
+    true
+}
+
+#[test]
+fn numbers_and_ids_lead_to_their_node(rt: HostRuntime) -> Result<(), OutOfMemory> {
+    let mut tree = filled(rt.alloc())?;
+    assert!(rt;
+        are_placed(
+            &tree,
+            &[
+                (1, 1, 2),
+                (1, 1025, 2),
+                (1, 3, 3),
+                (1, 1027, 3),
+                (2, 1, 4),
+                (2, 1025, 4)
+            ]
+        )
+    );
+    assert!(rt; are_placed(&tree, &[(2, 3, 99), (3, 1, 99), (1, 0, 99), (1, 1024, 99)]));
+    tree.remove("s/p1");
+    assert!(rt; are_placed(&tree, &[(1, 1, 99), (1, 1025, 99), (1, 3, 2), (2, 1025, 3)]));
+    tree.remove_under(1);
+    assert!(rt; are_placed(&tree, &[(1, 3, 99), (1, 1027, 99), (2, 1, 2)]));
     Ok(())
 }

@@ -1,16 +1,21 @@
 //! The tree.
-ghost use Rattle.std.specs.Prelude.{◌≡◌, ◌<◌, IfOk, IfSome, MatchResult, Some, None, length, map, position, option_map, slice_get, remove};
+ghost use Rattle.std.specs.Prelude.{◌≡◌, ◌<◌, ◌≤◌, IfOk, IfSome, MatchResult, Some, None, true, length, map, position, option_map, slice_get, remove, is_some};
+ghost use Rattle.std.specs.List.{list_all, prefix_len, position_or_len, remove_range};
 ghost use Rattle.std.specs.Option.{option_copied};
 ghost use Rattle.scene_model.specs.Valid.{IsValidScene};
 ghost use Rattle.peer_model.specs.Updates.{Live, live_at, fixed_live};
 ghost use Rattle.peer_model.specs.View.{row_of as row_seen};
+ghost use Rattle.headless_tree.specs.declared.node.NodeNow.{NodeNow as NodeOf};
+ghost use Rattle.headless_tree.specs.Numbers.{has_number, is_new as is_new_in, are_new as are_new_in};
+ghost use Rattle.headless_tree.specs.Order.{are_in_order};
 ghost use Rattle.headless_tree.specs.Nodes.{live, is_at, value_at, fixed_nodes, assign_no, assigned, assign_at_no, assigned_at, is_long, is_row_of as is_row, is_spawned as is_spawned_in, has_spawned as has_spawned_in, without_spawned, without_rows, IsSpot};
 
 mod making;
 mod paths;
 
 use crate::node::{NodeNow, TreeNo};
-use gd_variant::{OutOfMemory, Variant, len_of};
+use crate::numbers::Numbers;
+use gd_variant::{IdList, OutOfMemory, Variant, len_of};
 use indexmap::IndexSet;
 use scene_model::{Row, RowList, Scene};
 use sqlite_items::{Items, at as item_at};
@@ -21,21 +26,25 @@ use std::marker::Model;
 const MOST_VALUE_BYTES: u64 = 65536;
 
 /// The nodes of one peer: the fixed ones in the order of the scene, then the spawned ones by
-/// authority and number. Each path stands in `paths` at its node's place.
+/// authority and number. Each path stands in `paths` at its node's place, and in `numbers` under each
+/// number of its node.
 #[derive(Drop)]
 pub struct Tree {
     scene: Scene,
     nodes: Vec<NodeNow>,
     paths: IndexSet<String>,
+    numbers: Numbers,
 }
 
 impl Model for Tree {
-    ghost use Rattle.std.specs.Prelude.{◌≡◌, map};
+    ghost use Rattle.std.specs.Prelude.{◌≡◌, true, map};
     ghost use Rattle.std.specs.String.{string_bytes};
     ghost use Rattle.std.specs.Coded.{codes};
     ghost use Rattle.gd_variant.specs.contracts.value.Variant as variant;
     ghost use Rattle.headless_tree.specs.declared.node.NodeNow.{NodeNow as NodeOf};
     ghost use Rattle.headless_tree.specs.Nodes.{TreeOf, live};
+    ghost use Rattle.headless_tree.specs.Numbers.{has_paths_once, is_numbered};
+    ghost use Rattle.headless_tree.specs.Order.{are_in_order};
 
     ghost Value = { TreeOf };
 
@@ -43,7 +52,7 @@ impl Model for Tree {
 
     ghost view = { λ t. record { scene = t.scene; nodes = map live t.nodes.items } };
 
-    ghost invariant = { λ t. map string_bytes t.paths.keys ≡ map (λ (n : NodeOf). n.path) t.nodes.items };
+    ghost invariant = { λ t. (map string_bytes t.paths.keys ≡ map (λ (n : NodeOf). n.path) t.nodes.items) × (has_paths_once (map live t.nodes.items) ≡ true) × (is_numbered t.numbers (map live t.nodes.items) ≡ true) × (are_in_order (map live t.nodes.items) ≡ true) };
 }
 
 impl Tree {
@@ -88,10 +97,62 @@ impl Tree {
         item_at(self.nodes.as_slice(), place)
     }
 
+    /// The place, from 0 in the order of `rows`, of the spawned node of an authority that has this
+    /// number itself or in its ids.
+    pub fn row_of(&self, auth: i32, id: u32) -> Option<usize>
+        ensures { result ≡ position (has_number auth id) self.now.nodes }
+    {
+        self.row_with(&auth, id)
+    }
+
+    fn row_with(&self, auth: &i32, id: u32) -> Option<usize>
+        ensures { result ≡ position (has_number auth.now id) self.now.nodes }
+    {
+        match self.numbers.get(auth, id) {
+            Some(path) => match self.place_of(path.as_str()) {
+                Some(place) => {
+                    if has_this_number(&self.nodes[place], auth, id) {
+                        Some(place)
+                    } else {
+                        None
+                    }
+                }
+                None => None,
+            },
+            None => None,
+        }
+    }
+
+    fn is_new(&self, auth: &i32, id: u32) -> bool
+        ensures { result ≡ is_new_in auth.now self.now.nodes id }
+    {
+        self.row_with(auth, id).is_none()
+    }
+
+    fn all_new(&self, auth: &i32, ids: &[u32]) -> bool
+        ensures { result ≡ list_all (is_new_in auth.now self.now.nodes) ids.now }
+    {
+        ids.iter().all(|id| self.is_new(auth, *id))
+    }
+
+    fn are_new_to(&self, auth: &i32, num: u32, ids: &IdList) -> bool
+        ensures { result ≡ are_new_in auth.now num ids.now self.now.nodes }
+    {
+        self.is_new(auth, num) && self.all_new(auth, ids.as_slice())
+    }
+
+    /// Whether neither a number nor one of the ids belongs to a spawned node of an authority.
+    pub fn are_new(&self, auth: i32, num: u32, ids: &IdList) -> bool
+        ensures { result ≡ are_new_in auth num ids.now self.now.nodes }
+    {
+        self.are_new_to(&auth, num, ids)
+    }
+
     /// Every node, the fixed ones in the order of the scene, then the spawned ones by authority and
     /// number.
     pub fn rows(&self, alloc: Global) -> Result<RowList, OutOfMemory>
-        ensures { IfOk result (λ rows. rows ≡ map row_seen self.now.nodes) }
+        ensures rows { IfOk result (λ rows. rows ≡ map row_seen self.now.nodes) }
+        ensures order { are_in_order self.now.nodes ≡ true }
     {
         let mut rows = Items::new(alloc);
         for node in self.nodes.as_slice() {
@@ -160,16 +221,24 @@ impl Tree {
         requires { place < length self.old.nodes }
         ensures { self.new ≡ record self.old { nodes = remove self.old.nodes place } }
     {
-        self.nodes.remove(place);
+        let node = self.nodes.remove(place);
         self.paths.shift_remove_index(place);
+        self.numbers.forget(&node);
     }
 
-    fn has_spawned(&self, path: &str) -> bool
-        ensures { result ≡ has_spawned_in self.now.nodes path.now }
+    fn spawned_place(&self, path: &str) -> Option<usize>
+        ensures answer { is_some result ≡ has_spawned_in self.now.nodes path.now }
+        ensures place { IfSome result (λ i. position (is_at path.now) self.now.nodes ≡ Some i) }
     {
-        match self.node_at(path) {
-            Some(node) => is_spawned(node),
-            None => false,
+        match self.place_of(path) {
+            Some(place) => {
+                if is_spawned(&self.nodes[place]) {
+                    Some(place)
+                } else {
+                    None
+                }
+            }
+            None => None,
         }
     }
 
@@ -178,10 +247,7 @@ impl Tree {
         ensures answer { result ≡ has_spawned_in self.old.nodes path.now }
         ensures nodes { self.new ≡ record self.old { nodes = without_spawned path.now self.old.nodes } }
     {
-        if !self.has_spawned(path) {
-            return false;
-        }
-        match self.place_of(path) {
+        match self.spawned_place(path) {
             Some(place) => {
                 self.remove_at(place);
                 true
@@ -190,18 +256,53 @@ impl Tree {
         }
     }
 
+    fn remove_rows(&mut self, auth: &i32)
+        ensures { self.new ≡ record self.old { nodes = without_rows auth.now self.old.nodes } }
+    {
+        let (start, end) = rows_under(self.nodes.as_slice(), auth);
+        self.nodes.drain(start..end);
+        self.paths.drain(start..end);
+        self.numbers.forget_under(auth);
+    }
+
     /// Removes every spawned node of an authority.
     pub fn remove_under(&mut self, auth: i32)
         ensures { self.new ≡ record self.old { nodes = without_rows auth self.old.nodes } }
     {
-        let mut at = self.nodes.len();
-        while 0 < at {
-            at -= 1;
-            if is_row_of(&self.nodes[at], &auth) {
-                self.remove_at(at);
-            }
-        }
+        self.remove_rows(&auth);
     }
+}
+
+/// Where the spawned nodes of an authority begin and end: in nodes in order they stand together.
+fn rows_under(nodes: &[NodeNow], auth: &i32) -> (usize, usize)
+    requires order { are_in_order (map live nodes.now) ≡ true }
+    ensures within { (result.0 ≤ result.1) × (result.1 ≤ length nodes.now) }
+    ensures rows { without_rows auth.now (map live nodes.now) ≡ remove_range (map live nodes.now) result.0 result.1 }
+{
+    let start = count_others(nodes, auth);
+    (start, start + count_rows(&nodes[start..], auth))
+}
+
+/// How many nodes stand before the first spawned one of an authority.
+fn count_others(nodes: &[NodeNow], auth: &i32) -> usize
+    ensures count { result ≡ position_or_len (λ (n : NodeOf). is_row auth.now (live n)) nodes.now }
+    ensures within { result ≤ length nodes.now }
+{
+    nodes
+        .iter()
+        .take_while(|node| !is_row_of(node, auth))
+        .count()
+}
+
+/// How many of the first nodes are spawned ones of an authority.
+fn count_rows(nodes: &[NodeNow], auth: &i32) -> usize
+    ensures count { result ≡ prefix_len (λ (n : NodeOf). is_row auth.now (live n)) nodes.now }
+    ensures within { result ≤ length nodes.now }
+{
+    nodes
+        .iter()
+        .take_while(|node| is_row_of(node, auth))
+        .count()
 }
 
 fn row_of(alloc: Global, node: &NodeNow) -> Result<Row, OutOfMemory>
@@ -219,6 +320,12 @@ fn is_too_long(value: &Variant) -> bool
     ensures { result ≡ is_long value.now }
 {
     MOST_VALUE_BYTES < len_of(value)
+}
+
+fn has_this_number(node: &NodeNow, auth: &i32, id: u32) -> bool
+    ensures { result ≡ has_number auth.now id (live node.now) }
+{
+    is_row_of(node, auth) && (id == node.num || node.ids.as_slice().contains(&id))
 }
 
 fn is_spawned(node: &NodeNow) -> bool

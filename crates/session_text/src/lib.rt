@@ -13,6 +13,7 @@ mod reports;
 mod sink;
 mod source;
 mod status;
+mod stop;
 #[cfg(test)]
 mod tests;
 mod values;
@@ -27,3 +28,4 @@ pub use reports::report_text;
 pub use sink::{Sink, put_all};
 pub use source::{Failed, Source};
 pub use status::{LineWhy, Status};
+pub use stop::LineStop;

@@ -1,5 +1,5 @@
 //! A tree of a scene, and a tree with one node more.
-ghost use Rattle.std.specs.Prelude.{◌≡◌, ◌<◌, ◌≤◌, IfOk, OnOk, OnErr, MatchResult, None, length};
+ghost use Rattle.std.specs.Prelude.{◌≡◌, ◌<◌, ◌≤◌, IfOk, OnOk, OnErr, MatchResult, None, true, length, map};
 ghost use Rattle.std.specs.List.{prefix_len};
 ghost use Rattle.gd_variant.specs.Text.{HasNoZero};
 ghost use Rattle.gd_variant.specs.Words.{put_by};
@@ -9,11 +9,14 @@ ghost use Rattle.scene_model.specs.Paths.{joined as joined_of};
 ghost use Rattle.peer_model.specs.Updates.{live_at, fixed_live};
 ghost use Rattle.peer_model.specs.Values.{props_in};
 ghost use Rattle.headless_tree.specs.declared.node.NodeNow.{NodeNow as NodeOf};
-ghost use Rattle.headless_tree.specs.Nodes.{live, fixed_nodes, row_before, spawned_node, insert_no, IsRefused};
+ghost use Rattle.headless_tree.specs.Numbers.{are_free, are_new};
+ghost use Rattle.headless_tree.specs.Order.{are_in_order};
+ghost use Rattle.headless_tree.specs.Nodes.{live, fixed_nodes, is_spawned, row_before, spawned_node, insert_no, IsRefused};
 
 use super::Tree;
 use super::paths::{joined, put_path};
 use crate::node::{NodeNow, TreeNo};
+use crate::numbers::Numbers;
 use crate::values::Values;
 use gd_variant::{IdList, OutOfMemory, Text};
 use indexmap::IndexSet;
@@ -42,14 +45,13 @@ fn stands_before(node: &NodeNow, other: &NodeNow) -> bool
         || (node.auth == other.auth && node.num < other.num)
 }
 
+/// How many nodes stand before another, by a binary search.
 fn count_before(nodes: &[NodeNow], node: &NodeNow) -> usize
+    requires order { are_in_order (map live nodes.now) ≡ true }
     ensures count { result ≡ prefix_len (λ (m : NodeOf). row_before (live m) (live node.now)) nodes.now }
     ensures within { result ≤ length nodes.now }
 {
-    nodes
-        .iter()
-        .take_while(|other| stands_before(other, node))
-        .count()
+    nodes.partition_point(|other| stands_before(other, node))
 }
 
 impl Tree {
@@ -60,6 +62,7 @@ impl Tree {
     {
         let mut nodes = Vec::new(alloc);
         let mut paths = IndexSet::new(alloc);
+        let numbers = Numbers::new(alloc);
         for (at, node) in scene.nodes.as_slice().iter().enumerate() {
             put_path(alloc, &mut paths, at, &node.path)?;
             nodes.push(fixed(alloc, node)?)?;
@@ -69,6 +72,7 @@ impl Tree {
             scene,
             nodes,
             paths,
+            numbers,
         })
     }
 
@@ -106,11 +110,14 @@ impl Tree {
     }
 
     fn add(&mut self, alloc: Global, node: NodeNow) -> Result<(), OutOfMemory>
-        requires { live_at self.old.nodes node.path ≡ None }
+        requires path { live_at self.old.nodes node.path ≡ None }
+        requires spawned { is_spawned (live node) ≡ true }
+        requires numbers { are_free (live node) self.old.nodes ≡ true }
         ensures ok { OnOk result (self.new ≡ record self.old { nodes = put_by row_before (live node) self.old.nodes }) }
         ensures err { OnErr result (self.new ≡ self.old) }
     {
         self.nodes.reserve(1)?;
+        self.numbers.note(alloc, &node)?;
         let at = count_before(self.nodes.as_slice(), &node);
         put_path(alloc, &mut self.paths, at, &node.path)?;
         match self.nodes.insert(at, node) {
@@ -119,7 +126,8 @@ impl Tree {
         }
     }
 
-    /// Adds a node with the defaults of the scene at a place below another node.
+    /// Adds a node with the defaults of the scene at a place below another node. Neither its number
+    /// nor one of its ids belongs to a spawned node of its authority.
     pub fn insert(
         &mut self,
         alloc: Global,
@@ -133,6 +141,7 @@ impl Tree {
         requires under { HasNoZero under.now }
         requires name { HasNoZero name.now }
         requires scene { scene < length self.old.scene.scenes }
+        requires numbers { are_new auth num ids.now self.old.nodes ≡ true }
         ensures { MatchResult result (λ _. (insert_no self.old.nodes under.now name.now ≡ None) × (self.new ≡ record self.old { nodes = put_by row_before (spawned_node self.old.scene (joined_of under.now name.now) auth num ids.now scene) self.old.nodes })) (λ e. IsRefused (insert_no self.old.nodes under.now name.now) e × (self.new ≡ self.old)) }
     {
         match self.new_path(alloc, under, name) {

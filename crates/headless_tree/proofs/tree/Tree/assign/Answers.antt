@@ -1,4 +1,4 @@
-use Rattle.std.proofs.Common.{◌≡◌, List, ap, ◌∙◌}
+use Rattle.std.proofs.Common.{List, ap, ◌∙◌}
 use Rattle.peer_model.specs.Updates.{Live}
 use Rattle.headless_tree.specs.Nodes.{TreeOf}
 use Rattle.headless_tree.proofs.Spots.{spot_assigned}

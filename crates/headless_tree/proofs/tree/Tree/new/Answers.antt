@@ -1,7 +1,7 @@
 use Rattle.std.proofs.Common.{◌<◌, List, length, get_or, ap, subst, ◌∙◌}
 use Rattle.std.specs.String.{string_bytes}
 use Rattle.scene_model.specs.declared.scene.Node.{Node}
-use Rattle.headless_tree.proofs.Made.{made_fresh, made_more}
+use Rattle.headless_tree.proofs.Made.{made_fresh, made_more, made_numbered, made_in_order}
 use Rattle.headless_tree.proofs.tree.Tree.new.Goals as goal
 
 pub put_path-requires-clause-fresh : goal.put_path-requires-clause-fresh
@@ -15,3 +15,6 @@ loop-at-preserved c =
     let low = subst (λ (ns : List Node). c.loop-at.at < length ns) c.as_slice-node-items.ensures c.loop-at-test.true in
     let is = c.node-item.is ∙ ap (λ (ns : List Node). get_or ns c.loop-at.at c.node-item.result) c.as_slice-node-items.ensures in
     made_more string_bytes c.args.scene.now c.loop-at.at c.loop-at.nodes.items c.push.new.self.items c.loop-at.paths.keys c.put_path.new.paths.keys c.node-item.result c.in_ok-fixed.field-0 low is c.loop-at.invariant c.in_ok-fixed.ensures c.in_ok-push.ensures.items c.in_ok-put_path.ensures.ok
+
+pub invariant_of-result : goal.invariant_of-result
+invariant_of-result c = (c.loop-at.invariant.paths, c.loop-at.invariant.once, made_numbered string_bytes c.args.scene.now c.loop-at.at c.loop-at.nodes.items c.loop-at.paths.keys c.new-numbers.result c.loop-at.invariant, made_in_order string_bytes c.args.scene.now c.loop-at.at c.loop-at.nodes.items c.loop-at.paths.keys c.loop-at.invariant)

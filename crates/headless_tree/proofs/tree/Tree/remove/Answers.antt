@@ -1,12 +1,9 @@
-use Rattle.std.proofs.Common.{◌≡◌, sym, ◌∙◌}
-use Rattle.headless_tree.proofs.Spots.{none_spawned, keeps_all, removes_one}
+use Rattle.std.proofs.Common.{sym, ◌∙◌}
+use Rattle.headless_tree.proofs.Spots.{keeps_all, removes_one}
 use Rattle.headless_tree.proofs.tree.Tree.remove.Goals as goal
 
 pub returns-in-Some-clause-nodes : goal.returns-in-Some-clause-nodes
-returns-in-Some-clause-nodes c = c.remove_at.ensures ∙ removes_one c.args.self.now c.args.path.now c.in-Some.place (sym c.if-not-has_spawned.ensures) (sym c.in-Some.ensures.place)
-
-pub returns-in-None-clause-answer : goal.returns-in-None-clause-answer
-returns-in-None-clause-answer c = sym (none_spawned c.args.self.now.nodes c.args.path.now (sym c.in-None.ensures.place))
+returns-in-Some-clause-nodes c = c.remove_at.ensures ∙ removes_one c.args.self.now c.args.path.now c.in-Some.place (sym c.in-Some.ensures.answer) c.in-Some.ensures.place
 
 pub returns-in-None-clause-nodes : goal.returns-in-None-clause-nodes
-returns-in-None-clause-nodes c = keeps_all c.args.self.now c.args.path.now (none_spawned c.args.self.now.nodes c.args.path.now (sym c.in-None.ensures.place))
+returns-in-None-clause-nodes c = keeps_all c.args.self.now c.args.path.now (sym c.in-None.ensures.answer)

@@ -1,4 +1,4 @@
-use Rattle.std.proofs.Common.{◌≡◌, Bool, true, false, refl, sym, ap}
+use Rattle.std.proofs.Common.{true, false, refl, sym, ap}
 use Rattle.headless_tree.specs.Nodes.{TreeOf, live, is_long}
 use Rattle.headless_tree.proofs.Spots.{no_node, why_at, lacks, lacks_not, live_found, live_there}
 use Rattle.headless_tree.proofs.tree.Tree.spot.Goals as goal

@@ -1,0 +1,11 @@
+pub mod Decoding
+pub mod Each
+pub mod Forms
+pub mod Held
+pub mod Known
+pub mod Lengths
+pub mod Pushed
+pub mod ReadBack
+pub mod SessionsBack
+pub mod Shapes
+pub mod Steps

@@ -1,0 +1,16 @@
+use Rattle.std.proofs.lemmas.Result.{err_from_is_err_and}
+use Rattle.line_text.specs.Parts.{text_read}
+use Rattle.line_text.proofs.Each.{reads_fail, reads_on, reads_start}
+use Rattle.line_text.proofs.json.each_text.Goals as goal
+
+pub loop-item-init : goal.loop-item-init
+loop-item-init c = reads_start text_read c.new-all.result c.args.items.now c.new-all.ensures
+
+pub returns-in_err-text : goal.returns-in_err-text
+returns-in_err-text c =
+    let p = err_from_is_err_and c.from_residual.result c.from_residual.ensures.1 in
+    rw (p.1, p.2) (reads_fail c.in_err-text.field-0.0 text_read c.loop-item.all c.args.items.now c.loop-item.item-index c.item-item.result c.loop-item-test.true c.item-item.is c.in_err-text.ensures c.loop-item.invariant)
+
+pub loop-item-preserved : goal.loop-item-preserved
+loop-item-preserved c =
+    reads_on text_read c.loop-item.all c.push.new.self c.args.items.now c.loop-item.item-index c.item-item.result c.in_ok-text.text c.loop-item-test.true c.item-item.is c.in_ok-text.ensures c.in_ok-push.ensures.ok c.loop-item.invariant

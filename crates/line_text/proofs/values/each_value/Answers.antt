@@ -1,0 +1,16 @@
+use Rattle.std.proofs.lemmas.Result.{err_from_is_err_and}
+use Rattle.line_text.specs.Values.{value_read}
+use Rattle.line_text.proofs.Each.{reads_fail, reads_on, reads_start}
+use Rattle.line_text.proofs.values.each_value.Goals as goal
+
+pub loop-item-init : goal.loop-item-init
+loop-item-init c = reads_start value_read c.new-all.result c.args.items.now c.new-all.ensures
+
+pub returns-in_err-value : goal.returns-in_err-value
+returns-in_err-value c =
+    let p = err_from_is_err_and c.from_residual.result c.from_residual.ensures.1 in
+    rw (p.1, p.2) (reads_fail c.in_err-value.field-0.0 value_read c.loop-item.all c.args.items.now c.loop-item.item-index c.item-item.result c.loop-item-test.true c.item-item.is c.in_err-value.ensures.gives c.loop-item.invariant)
+
+pub loop-item-preserved : goal.loop-item-preserved
+loop-item-preserved c =
+    reads_on value_read c.loop-item.all c.push.new.self c.args.items.now c.loop-item.item-index c.item-item.result c.in_ok-value.value c.loop-item-test.true c.item-item.is c.in_ok-value.ensures.gives c.in_ok-push.ensures.ok c.loop-item.invariant

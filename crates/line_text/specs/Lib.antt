@@ -1,0 +1,11 @@
+pub mod Held
+pub mod Lines
+pub mod Operations
+pub mod Parts
+pub mod Reading
+pub mod Scenes
+pub mod Sessions
+pub mod Values
+pub mod Words
+pub mod Written
+pub mod WrittenLines

@@ -1,0 +1,26 @@
+//! Lines of JSON, read exactly by their grammar.
+//!
+//! A line is one JSON value that `serde_json` reads. It is judged from outside in and from left to right,
+//! an object in the order of the keys that docs/FORMATS.md lists, and the first thing wrong is the reason.
+#![tactic(auto)]
+
+mod json;
+mod line;
+mod methods;
+mod nodes;
+mod operations;
+mod props;
+mod scenes;
+#[cfg(test)]
+mod session_tests;
+mod sessions;
+mod syncs;
+#[cfg(test)]
+mod tests;
+mod values;
+mod words;
+
+pub use scenes::read_scene;
+pub use session_text::LineStop;
+pub use sessions::{SessionLine, read_event, written_lines_are_read};
+pub use values::{value_of, values_of, written_values_are_read};

@@ -1,0 +1,145 @@
+//! Fixed nodes in a scene line.
+ghost use Rattle.std.specs.Prelude.{None, codes, pos, IfOk, ◌≤◌};
+ghost use Rattle.std.specs.Int.{w32};
+ghost use Rattle.std.specs.Int.RustNames.{FitsSigned};
+ghost use Rattle.serde_json.specs.View.{view, items_view, members_view};
+ghost use Rattle.line_text.specs.Reading.{Gives, each_read};
+ghost use Rattle.line_text.specs.Parts.{list_read, nat_read, or_default, short_read};
+ghost use Rattle.line_text.specs.Scenes.{custom_read, node_read, role_read, spawner_read};
+
+use crate::json::{
+    array_of, key_of, member, nat_of, object_of, pair_of, short_of, text_of, texts_of,
+};
+use crate::methods::node_methods_of;
+use crate::props::node_props_of;
+use crate::syncs::node_sync_of;
+use scene_model::{CustomDef, Node, NodeList, Role, SpawnerDef};
+use serde_json::{Map, Value};
+use session_text::{LineStop, LineWhy};
+use sqlite_items::Items;
+use std::alloc::Global;
+
+/// What a custom spawn makes: a node of a scene, whose property takes the argument.
+#[tactic(auto, unfolding(crate::specs::Scenes::custom_read))]
+fn custom_of(alloc: Global, value: &Value) -> Result<Option<CustomDef>, LineStop>
+    ensures { Gives (λ c. c) result (custom_read (view value.now)) }
+{
+    let (scene, prop) = pair_of(value)?;
+    let scene = text_of(alloc, scene)?;
+    let prop = text_of(alloc, prop)?;
+    Ok(Some(CustomDef { scene, prop }))
+}
+
+/// What a custom spawn makes, nothing where the key is missing.
+#[tactic(auto, unfolding(crate::specs::Parts::optional))]
+fn spawner_custom_of(
+    alloc: Global,
+    members: &Map<String, Value>,
+) -> Result<Option<CustomDef>, LineStop>
+    ensures { Gives (λ c. c) result (or_default None custom_read (codes "custom") (members_view members.now.entries)) }
+{
+    match member(members, "custom") {
+        Some(value) => custom_of(alloc, value),
+        None => Ok(None),
+    }
+}
+
+/// How many nodes of a spawner may live at once; 0, the default, is no limit.
+#[tactic(auto, unfolding(crate::specs::Parts::optional))]
+fn limit_of(members: &Map<String, Value>) -> Result<u32, LineStop>
+    ensures { Gives (λ n. n) result (or_default 0 (nat_read 0 4294967295) (codes "limit") (members_view members.now.entries)) }
+{
+    match member(members, "limit") {
+        Some(value) => {
+            let limit = nat_of(0, 4294967295, value)?;
+            Ok(limit as u32)
+        }
+        None => Ok(0),
+    }
+}
+
+#[tactic(auto, unfolding(crate::specs::Scenes::spawner_read))]
+fn spawner_of(alloc: Global, value: &Value) -> Result<SpawnerDef, LineStop>
+    ensures { Gives (λ s. s) result (spawner_read (view value.now)) }
+{
+    let members = object_of(value, &["under", "scenes", "limit", "custom"])?;
+    let under = text_of(alloc, key_of(members, "under")?)?;
+    let scenes = texts_of(alloc, key_of(members, "scenes")?)?;
+    let limit = limit_of(members)?;
+    let custom = spawner_custom_of(alloc, members)?;
+    Ok(SpawnerDef {
+        under,
+        scenes,
+        limit,
+        custom,
+    })
+}
+
+/// What a node is: it has `spawner` or `sync`, or neither.
+#[tactic(auto, unfolding(crate::specs::Scenes::role_read, crate::specs::Scenes::role_by))]
+fn role_of(alloc: Global, members: &Map<String, Value>) -> Result<Role, LineStop>
+    ensures { Gives (λ r. r) result (role_read (members_view members.now.entries)) }
+{
+    let spawner = member(members, "spawner");
+    let sync = member(members, "sync");
+    match (spawner, sync) {
+        (None, None) => Ok(Role::Plain),
+        (Some(value), None) => Ok(Role::Spawner(spawner_of(alloc, value)?)),
+        (None, Some(value)) => Ok(Role::Sync(node_sync_of(alloc, value)?)),
+        (Some(_), Some(_)) => Err(LineStop::LineBad(LineWhy::Shape)),
+    }
+}
+
+/// The authority of a node, the server where the key is missing.
+#[tactic(auto, unfolding(crate::specs::Parts::optional))]
+fn auth_of(members: &Map<String, Value>) -> Result<i32, LineStop>
+    ensures gives { Gives (λ z. z) result (or_default (pos 1) short_read (codes "auth") (members_view members.now.entries)) }
+    ensures fits { IfOk result (λ z. FitsSigned w32 z) }
+{
+    match member(members, "auth") {
+        Some(value) => short_of(value),
+        None => Ok(1),
+    }
+}
+
+#[tactic(auto, unfolding(crate::specs::Scenes::node_read))]
+fn node_of(alloc: Global, value: &Value) -> Result<Node, LineStop>
+    ensures { Gives (λ n. n) result (node_read (view value.now)) }
+{
+    let members = object_of(
+        value,
+        &["path", "auth", "props", "methods", "spawner", "sync"],
+    )?;
+    let path = text_of(alloc, key_of(members, "path")?)?;
+    let auth = auth_of(members)?;
+    let props = node_props_of(alloc, members)?;
+    let methods = node_methods_of(alloc, members)?;
+    let role = role_of(alloc, members)?;
+    Ok(Node {
+        path,
+        auth,
+        props,
+        methods,
+        role,
+    })
+}
+
+fn each_node(alloc: Global, items: &[Value]) -> Result<NodeList, LineStop>
+    ensures { Gives (λ ns. ns) result (each_read node_read (items_view items.now)) }
+{
+    let mut all = Items::new(alloc);
+    for item in items {
+        let node = node_of(alloc, item)?;
+        all.push(node)?;
+    }
+    Ok(all)
+}
+
+/// An array of fixed nodes.
+#[tactic(auto, unfolding(crate::specs::Parts::list_read))]
+pub fn nodes_of(alloc: Global, value: &Value) -> Result<NodeList, LineStop>
+    ensures { Gives (λ ns. ns) result (list_read node_read (view value.now)) }
+{
+    let items = array_of(value)?;
+    each_node(alloc, items)
+}

@@ -1,0 +1,158 @@
+//! The lines of a session.
+ghost use Rattle.std.specs.Prelude.{◌≡◌, IfOk, true};
+ghost use Rattle.std.specs.List.{list_all};
+ghost use Rattle.serde_json.specs.View.{view, items_view};
+ghost use Rattle.gd_variant.specs.Words.{has_text};
+ghost use Rattle.gd_variant.specs.Sound.{is_text, is_sound};
+ghost use Rattle.line_text.specs.Reading.{Gives};
+ghost use Rattle.line_text.specs.Held.{HasPlainSpawn, IsGivenLine, is_built, is_peer, line_peers, line_texts, line_values};
+ghost use Rattle.line_text.specs.WrittenLines.{ReadsSessions};
+ghost use Rattle.line_text.specs.Sessions.{at_peer_read, connect_read, later_lines, line_by, line_read, none_of, one_of, peer_read, rel_read, report_read, session_line_read};
+
+use crate::json::{nat_of, two_of};
+use crate::line::data_of;
+use crate::operations::{op_of, worded_of};
+use scene_model::WorldEvent;
+use serde_json::Value;
+use session_text::{LineStop, LineWhy};
+use std::alloc::Global;
+
+/// What a line of a session asks for.
+#[derive(Drop)]
+pub enum SessionLine {
+    /// An event of the session.
+    Event(WorldEvent),
+    /// The report of a peer.
+    Report(i32),
+}
+
+/// The number of a peer, 1 to 2,147,483,647.
+#[tactic(auto, unfolding(crate::specs::Sessions::peer_read))]
+fn peer_of(value: &Value) -> Result<i32, LineStop>
+    ensures gives { Gives (λ p. p) result (peer_read (view value.now)) }
+    ensures peer { IfOk result (λ p. is_peer p ≡ true) }
+{
+    let n = nat_of(1, 2147483647, value)?;
+    match i32::try_from(n) {
+        Ok(peer) => Ok(peer),
+        Err(_) => Err(LineStop::LineBad(LineWhy::Range)),
+    }
+}
+
+#[tactic(auto, unfolding(crate::specs::Sessions::none_of))]
+fn none_of(items: &[Value]) -> Result<(), LineStop>
+    ensures { Gives (λ x. x) result (none_of (items_view items.now)) }
+{
+    match items {
+        [] => Ok(()),
+        [_, ..] => Err(LineStop::LineBad(LineWhy::Shape)),
+    }
+}
+
+#[tactic(auto, unfolding(crate::specs::Sessions::one_of))]
+fn one_of(items: &[Value]) -> Result<&Value, LineStop>
+    ensures { Gives (λ x. view x.now) result (one_of (items_view items.now)) }
+{
+    match items {
+        [only] => Ok(only),
+        [] => Err(LineStop::LineBad(LineWhy::Shape)),
+        [_, _, ..] => Err(LineStop::LineBad(LineWhy::Shape)),
+    }
+}
+
+#[tactic(auto, unfolding(crate::specs::Sessions::connect_read))]
+fn connect_of(items: &[Value]) -> Result<SessionLine, LineStop>
+    ensures gives { Gives (λ x. x) result (connect_read (items_view items.now)) }
+    ensures given { IfOk result IsGivenLine }
+{
+    none_of(items)?;
+    Ok(SessionLine::Event(WorldEvent::Connect))
+}
+
+#[tactic(auto, unfolding(crate::specs::Sessions::at_peer_read))]
+fn at_peer_of(alloc: Global, items: &[Value]) -> Result<SessionLine, LineStop>
+    ensures gives { Gives (λ x. x) result (at_peer_read (items_view items.now)) }
+    ensures given { IfOk result IsGivenLine }
+{
+    let (peer, op) = two_of(items)?;
+    let peer = peer_of(peer)?;
+    let op = op_of(alloc, op)?;
+    Ok(SessionLine::Event(WorldEvent::Op { peer, op }))
+}
+
+#[tactic(auto, unfolding(crate::specs::Sessions::rel_read))]
+fn rel_of(items: &[Value]) -> Result<SessionLine, LineStop>
+    ensures gives { Gives (λ x. x) result (rel_read (items_view items.now)) }
+    ensures given { IfOk result IsGivenLine }
+{
+    let (from, to) = two_of(items)?;
+    let from = peer_of(from)?;
+    let to = peer_of(to)?;
+    Ok(SessionLine::Event(WorldEvent::Rel { from, to }))
+}
+
+#[tactic(auto, unfolding(crate::specs::Sessions::report_read))]
+fn report_of(items: &[Value]) -> Result<SessionLine, LineStop>
+    ensures gives { Gives (λ x. x) result (report_read (items_view items.now)) }
+    ensures given { IfOk result IsGivenLine }
+{
+    let peer = peer_of(one_of(items)?)?;
+    Ok(SessionLine::Report(peer))
+}
+
+/// Whether a line of this word isn't built yet.
+fn is_later_line(word: &str) -> bool
+    ensures { result ≡ has_text word.now later_lines }
+{
+    word == "down" || word == "loose" || word == "forge"
+}
+
+/// A line by its word, of what stands behind the word.
+#[tactic(auto, unfolding(crate::specs::Sessions::line_by))]
+fn line_by(alloc: Global, word: &str, items: &[Value]) -> Result<SessionLine, LineStop>
+    ensures gives { Gives (λ x. x) result (line_by word.now (items_view items.now)) }
+    ensures given { IfOk result IsGivenLine }
+{
+    match word {
+        "connect" => connect_of(items),
+        "op" => at_peer_of(alloc, items),
+        "rel" => rel_of(items),
+        "report" => report_of(items),
+        _ if is_later_line(word) => Err(LineStop::LineBad(LineWhy::NotBuilt)),
+        _ => Err(LineStop::LineBad(LineWhy::Name)),
+    }
+}
+
+#[tactic(auto, unfolding(crate::specs::Sessions::line_read))]
+fn line_of(alloc: Global, value: &Value) -> Result<SessionLine, LineStop>
+    ensures gives { Gives (λ x. x) result (line_read (view value.now)) }
+    ensures given { IfOk result IsGivenLine }
+{
+    let (word, items) = worded_of(value)?;
+    line_by(alloc, word, items)
+}
+
+/// What a line of a session asks for: `["connect"]`, `["op",p,OP]`, `["rel",a,b]` or `["report",p]`, where
+/// OP is `["spawn",spawner,scene,name,[[property,value]]]` or `["set",path,property,value]`, and each of p,
+/// a and b is the number of a peer.
+///
+/// `LineBad` has the first thing wrong. The word of a line or of an operation is judged before the length,
+/// so `NotBuilt` comes at a word that isn't read yet, whatever stands behind it.
+#[tactic(auto, unfolding(crate::specs::Sessions::session_line_read))]
+pub fn read_event(alloc: Global, line: &[u8]) -> Result<SessionLine, LineStop>
+    ensures exact { Gives (λ x. x) result (session_line_read line.now) }
+    ensures built { IfOk result (λ x. is_built x ≡ true) }
+    ensures texts { IfOk result (λ x. list_all is_text (line_texts x) ≡ true) }
+    ensures values { IfOk result (λ x. list_all is_sound (line_values x) ≡ true) }
+    ensures spawns { IfOk result HasPlainSpawn }
+    ensures peers { IfOk result (λ x. list_all is_peer (line_peers x) ≡ true) }
+{
+    let value = data_of(alloc, line)?;
+    line_of(alloc, &value)
+}
+
+/// What is written of a line of a session is read as that line. (That a byte is below 256, which the law
+/// asks for, the value's type says.)
+pub fn written_lines_are_read()
+    ensures { ReadsSessions }
+{}
