@@ -1,5 +1,6 @@
 #!/usr/bin/env bash
-# Times the proved program on a session of one connect, as many spawns as its limit of lines allows, their deliveries and reports.
+# Times runs of the proved program on a small session: one connect, 30 spawns, their deliveries and two reports.
+# bench/replay.sh times a large one.
 #
 #   bench/run.sh [REPEATS]      REPEATS runs (200) of the same input, one after the other
 #

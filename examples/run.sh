@@ -1,14 +1,20 @@
 #!/usr/bin/env bash
-# Replays a session, as examples/first.session, and shows what each of its lines did and what its reports hold.
+# Replays a session and shows what each of its lines did and what its reports hold.
 #
 #   examples/run.sh [SESSION]
 #
+# SESSION is a file, or the name of a session of this folder: first (one spawn, what is played without a name) or
+# arena (two spawners, three scenes, a server and two clients).
 # It runs the proved program where one stands, and else the one that `rt try` makes.
 set -u
 here=$(cd "$(dirname "$0")" && pwd)
 crate=$here/../crates/godot_mp_cli
 program=$crate/out/godot_mp_cli
-session=$(realpath -- "${1:-$here/first.session}") || exit 2
+session=${1:-first}
+if [ ! -f "$session" ] && [ -f "$here/$session.session" ]; then
+    session=$here/$session.session
+fi
+session=$(realpath -e -- "$session") || exit 2
 if [ -x "$program" ]; then
     exec "$program" replay < "$session"
 fi

@@ -1,11 +1,10 @@
-//! The run of the program: words, an input of lines, and the lines that it writes.
+//! The commands of the program over a source and a sink: a session is replayed, packets are shown.
 #![tactic(auto)]
 
-mod lines;
-mod replay;
+mod commands;
+mod session;
 #[cfg(test)]
 mod tests;
 mod words;
 
-pub use lines::{PathLine, read_path_line};
-pub use replay::run;
+pub use commands::run;

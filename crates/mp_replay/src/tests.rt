@@ -1,5 +1,5 @@
 //! Runs over sources and sinks that give little or fail.
-use super::*;
+use crate::run;
 use gd_variant::OutOfMemory;
 use session_text::{MemSink, MemSource};
 use std::alloc::Global;

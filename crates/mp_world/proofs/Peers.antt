@@ -1,117 +1,109 @@
--- What the peers of a world do at each event of the first path.
-use Rattle.std.proofs.Common.{◌≡◌, ℕ, ℤ, true, not, ◌&&◌, List, [], ◌∷◌, map, filter, refl, sym, ap, ap₂, ◌∙◌, subst, is_some, Some, None}
-use Rattle.std.specs.Prelude.{int_lt, option_and_then, if◌then◌else◌}
-use Rattle.std.specs.Ordering.{int_eq}
-use Rattle.std.specs.Str.{is_utf8}
-use Rattle.gd_variant.specs.Sound.{has_no_zero}
-use Rattle.scene_model.specs.Paths.{is_name}
-use Rattle.gd_variant.specs.Words.{has_int, put_by}
+-- What a peer does with an event that is done, by what it keeps and by the definitions.
+use Rattle.std.proofs.Common.{◌≡◌, ℕ, ℤ, true, List, ◌∷◌, refl, sym, ap, ap₂, ◌∙◌, subst, map, Option, Some, None}
+use Rattle.std.specs.Prelude.{if◌then◌else◌, Result, Ok, Err}
+use Rattle.std.proofs.lemmas.Bool.{true≢false}
+use Rattle.gd_variant.specs.declared.value.Variant.{Variant}
+use Rattle.gd_variant.specs.declared.message.Message.{Message}
+use Rattle.gd_variant.specs.declared.message.Bad.{Bad}
+use Rattle.scene_model.specs.declared.spawn.SpawnMsg.{SpawnMsg}
+use Rattle.scene_model.specs.declared.event.SpawnOp.{SpawnOp}
 use Rattle.scene_model.specs.declared.event.Event.{Event}
-use Rattle.scene_model.specs.declared.event.Event.TheVariants.{Op, Up, Received}
-use Rattle.scene_model.specs.declared.event.Op.TheVariants.{Spawn}
-use Rattle.scene_model.specs.declared.event.Class.TheVariants.{Reliable}
-use Rattle.scene_model.specs.declared.outcome.Out.{Out}
-use Rattle.peer_model.specs.Heard.{server}
-use Rattle.peer_model.specs.Bytes.{answer, accepted_events}
-use Rattle.peer_core.specs.declared.rows.SpawnedRow.{SpawnedRow}
-use Rattle.peer_core.specs.FirstPath.{path_peer, path_spawn, row_read, is_right, fits_long, IsTyped}
-use Rattle.peer_core.specs.Histories.{Kept, StandsFor, row_before}
-use Rattle.peer_core.specs.Steps.{packet_form, taken, done_with, show_to, shows_to, link_judged, link_taken, spawn_judged, spawn_taken, spawn_found, found_taken, row_found, row_taken, may_appear, kept_if, IsTypedEvent, IsTypedSpawn, IsTypedRow}
-use Rattle.peer_core.specs.Built.{is_built, not_built}
-use Rattle.peer_core.proofs.Lists.{both}
-use Rattle.peer_core.proofs.Whole.{IsDone, taken_done}
-use Rattle.peer_core.proofs.Received.{built_is}
-use Rattle.mp_world.specs.Steps.{client_id, new_peer}
-use Rattle.mp_world.proofs.Writable.{row_read_again}
+use Rattle.scene_model.specs.declared.event.Event.TheVariants.{Op, Up, Down, Received}
+use Rattle.scene_model.specs.declared.event.Op.{Op as Operation}
+use Rattle.scene_model.specs.declared.event.Op.TheVariants.{Spawn, Set}
+use Rattle.scene_model.specs.declared.outcome.Outcome.TheVariants.{Fault}
+use Rattle.scene_model.specs.declared.outcome.Refusal.{Refusal}
+use Rattle.scene_model.specs.declared.outcome.Fault.{Fault as FaultOf}
+use Rattle.scene_model.specs.declared.outcome.Fault.TheVariants as fault_why
+use Rattle.peer_model.specs.Heard.{Who, Heard}
+use Rattle.peer_model.specs.Refusals.{refusal_of}
+use Rattle.peer_model.specs.Faults.{fault_of}
+use Rattle.peer_model.specs.Answer.{decided, sends}
+use Rattle.peer_model.specs.Bytes.{PacketForm, heard_of, answer, accepted_events, out_of, outcome_of}
+use Rattle.peer_model.proofs.Accept.{accepted_done}
+use Rattle.peer_laws.specs.Built.{Accepts, AllAccepted}
+use Rattle.peer_core.specs.Kept.{Kept}
+use Rattle.peer_core.specs.Judged.{up_judged, down_judged, spawn_judged, set_judged, link_judged, shown_judged}
+use Rattle.peer_core.specs.Stands.{StandsFor, is_answered, is_built_event}
+use Rattle.peer_core.specs.Steps.{Taken, taken, up_taken, down_taken, spawn_taken, set_taken, op_taken, shown_taken, message_taken, linked_taken, read_taken, spawn_read, is_done}
+use Rattle.peer_core.proofs.Whole.{taken_right}
+use Rattle.world_model.specs.World.{packets_in}
 
--- a new client stands for no events
-pub new_stands : StandsFor packet_form (new_peer client_id) []
-new_stands = record {
-  live = refl;
-  up = refl;
-  nodes = refl;
-  history = record { events = []; heard = refl; right = tt; up = refl; rows = refl };
-}
+-- what is kept is of the same peer
 
--- links
+up_who : (form : PacketForm) (k : Kept) (b : ℤ) (o : Option Refusal) → (up_taken form k b o).kept.who ≡ k.who
+up_who form k b (Some r) = refl
+up_who form k b None = refl
 
--- the server shows all rows to the client whose link comes up
-pub server_linked : (k : Kept) → k.id ≡ server → k.up ≡ [] → taken packet_form k (Up client_id) ≡ record { outcome = done_with (map (show_to packet_form client_id) k.rows); kept = record k { up = client_id ∷ [] } }
-server_linked k i u =
-    ap (link_taken packet_form k client_id) (ap₂ (λ x y. link_judged x y client_id) i u)
-    ∙ ap₂ (λ x y. record { outcome = done_with (shows_to packet_form x k.rows client_id); kept = record k { up = put_by int_lt client_id y } }) i u
+down_who : (k : Kept) (b : ℤ) (o : Option Refusal) → (down_taken k b o).kept.who ≡ k.who
+down_who k b (Some r) = refl
+down_who k b None = refl
 
--- the client shows nothing to the server
-pub client_linked : taken packet_form (new_peer client_id) (Up server) ≡ record { outcome = done_with []; kept = record (new_peer client_id) { up = server ∷ [] } }
-client_linked = refl
+spawn_who : (form : PacketForm) (k : Kept) (o : SpawnOp) (r : Option Refusal) → (spawn_taken form k o r).kept.who ≡ k.who
+spawn_who form k o (Some r) = refl
+spawn_who form k o None = refl
 
-pub link_answers : (k : Kept) (es : List Event) (b : ℤ) → StandsFor packet_form k es → (taken packet_form k (Up b)).outcome ≡ answer packet_form (path_peer k.id) es (Up b)
-link_answers k es b h = (taken_done packet_form k es (Up b) h tt).answers
+set_who : (k : Kept) (path prop : List ℕ) (value : Variant) (r : Option Refusal) → (set_taken k path prop value r).kept.who ≡ k.who
+set_who k path prop value (Some r) = refl
+set_who k path prop value None = refl
 
-pub link_stands : (k : Kept) (es : List Event) (b : ℤ) → StandsFor packet_form k es → StandsFor packet_form (taken packet_form k (Up b)).kept (Up b ∷ es)
-link_stands k es b h = (taken_done packet_form k es (Up b) h tt).stands refl
+op_who : (form : PacketForm) (k : Kept) (op : Operation) → (op_taken form k op).kept.who ≡ k.who
+op_who form k (Spawn o) = spawn_who form k o (spawn_judged k.who k.nodes k.rows k.next o)
+op_who form k (Set path prop value) = set_who k path prop value (set_judged k.who k.nodes path prop value)
+op_who form k op = refl
 
--- spawns
+shown_who : (k : Kept) (from : ℤ) (s : SpawnMsg) (o : Option FaultOf) → (shown_taken k from s o).kept.who ≡ k.who
+shown_who k from s (Some f) = refl
+shown_who k from s None = refl
 
-found_here : (id : ℤ) (name : List ℕ) (value : ℤ) → id ≡ server → spawn_found id (Spawn (path_spawn name value)) ≡ Some (name, value)
-found_here id name value i = ap (λ x. spawn_found x (Spawn (path_spawn name value))) i
+message_who : (k : Kept) (from : ℤ) (s : Option SpawnMsg) → (message_taken k from s).kept.who ≡ k.who
+message_who k from None = refl
+message_who k from (Some s) = shown_who k from s (shown_judged k.who k.nodes from s)
 
-pub server_spawned : (k : Kept) (name : List ℕ) (value : ℤ) → k.id ≡ server → taken packet_form k (Op (Spawn (path_spawn name value))) ≡ spawn_taken packet_form k name value (spawn_judged name k.rows)
-server_spawned k name value i = ap (found_taken packet_form k) (found_here k.id name value i)
+linked_who : (k : Kept) (from : ℤ) (m : Message) (o : Option FaultOf) → (linked_taken k from m o).kept.who ≡ k.who
+linked_who k from m (Some f) = refl
+linked_who k from m None = message_who k from (spawn_read m)
 
-typed_here : (k : Kept) (name : List ℕ) (value : ℤ) → k.id ≡ server → IsTyped name value → IsTypedEvent packet_form k (Op (Spawn (path_spawn name value)))
-typed_here k name value i t = subst IsTypedSpawn (sym (found_here k.id name value i)) t
+read_who : (k : Kept) (from : ℤ) (r : Result Message Bad) → (read_taken k from r).kept.who ≡ k.who
+read_who k from (Err bad) = refl
+read_who k from (Ok m) = linked_who k from m (link_judged k.who k.up from)
 
-spawn_built : (k : Kept) (es : List Event) (name : List ℕ) (value : ℤ) → k.id ≡ server → is_built packet_form k.id (accepted_events packet_form (path_peer k.id) es) (Op (Spawn (path_spawn name value))) ≡ true
-spawn_built k es name value i = ap (λ x. int_eq x server && true) i
+pub same_who : (form : PacketForm) (k : Kept) (e : Event) → (taken form k e).kept.who ≡ k.who
+same_who form k (Up b) = up_who form k b (up_judged k.who k.come k.up b)
+same_who form k (Down b) = down_who k b (down_judged k.up b)
+same_who form k (Op op) = op_who form k op
+same_who form k (Received from class bytes) = read_who k from (form.read_packet bytes)
 
-pub spawn_answers : (k : Kept) (es : List Event) (name : List ℕ) (value : ℤ) → k.id ≡ server → IsTyped name value → StandsFor packet_form k es → (taken packet_form k (Op (Spawn (path_spawn name value)))).outcome ≡ answer packet_form (path_peer k.id) es (Op (Spawn (path_spawn name value)))
-spawn_answers k es name value i t h =
-    (taken_done packet_form k es (Op (Spawn (path_spawn name value))) h (typed_here k name value i t)).answers
-    ∙ ap (λ c. if c then answer packet_form (path_peer k.id) es (Op (Spawn (path_spawn name value))) else not_built (Op (Spawn (path_spawn name value)))) (spawn_built k es name value i)
+-- An event that is done: it is accepted, and its packets are those that the definitions send.
+pub record IsStep (form : PacketForm) (who : Who) (es : List Event) (e : Event) (t : Taken) : Type 0 where
+  pub accepts : Accepts who (accepted_events form who es) (heard_of form e)
+  pub more : accepted_events form who (e ∷ es) ≡ heard_of form e ∷ accepted_events form who es
+  pub packets : packets_in t.outcome ≡ map (out_of form) (sends who (heard_of form e) (accepted_events form who es))
+  pub who_is : t.kept.who ≡ who
+  pub stands : StandsFor form t.kept (e ∷ es)
 
-pub spawn_stands : (k : Kept) (es : List Event) (name : List ℕ) (value : ℤ) → k.id ≡ server → IsTyped name value → StandsFor packet_form k es → StandsFor packet_form (taken packet_form k (Op (Spawn (path_spawn name value)))).kept (Op (Spawn (path_spawn name value)) ∷ es)
-spawn_stands k es name value i t h = (taken_done packet_form k es (Op (Spawn (path_spawn name value))) h (typed_here k name value i t)).stands (spawn_built k es name value i)
+-- what is answered is the definitions' answer, where one is given
+pub answered : (form : PacketForm) (k : Kept) (es : List Event) (e : Event) → StandsFor form k es → is_built_event e ≡ true → is_answered form k.who es e ≡ true → (taken form k e).outcome ≡ answer form k.who es e
+answered form k es e h built given = (taken_right form k es e h built).answers ∙ ap (λ c. if c then answer form k.who es e else Fault fault_why.NotBuilt) given
 
--- packets
+done_none : (form : PacketForm) (who : Who) (gs : List Heard) (e : Heard) (r : Option Refusal) (f : Option FaultOf) → is_done (outcome_of form (decided who gs e r f)) ≡ true → (r ≡ None) × (f ≡ None)
+done_none form who gs e (Some r) f d = absurd (true≢false (sym d))
+done_none form who gs e None (Some f) d = absurd (true≢false (sym d))
+done_none form who gs e None None d = (refl, refl)
 
--- a row's packet at a client that may have the row
-pub row_arrives : (k : Kept) (r : SpawnedRow) → k.id ≡ client_id → k.up ≡ server ∷ [] → is_right r ≡ true → may_appear k.rows r ≡ true
-    → row_found packet_form k server Reliable (show_to packet_form client_id r).bytes ≡ Some r
-row_arrives k r i u right may =
-    ap₂ (λ x y. if int_eq server server && (has_int server y && (not (int_eq x server) && true)) then option_and_then (kept_if k.rows) (row_read (packet_form.read_packet (show_to packet_form client_id r).bytes)) else None) i u
-    ∙ ap (option_and_then (kept_if k.rows)) (row_read_again r right)
-    ∙ ap (λ b. if b then Some r else None) may
-
-pub client_shown : (k : Kept) (r : SpawnedRow) → k.id ≡ client_id → k.up ≡ server ∷ [] → is_right r ≡ true → may_appear k.rows r ≡ true
-    → taken packet_form k (Received server Reliable (show_to packet_form client_id r).bytes) ≡ record { outcome = done_with []; kept = record k { rows = put_by row_before r k.rows } }
-client_shown k r i u right may = ap (row_taken k) (row_arrives k r i u right may)
-
-typed_right : (r : SpawnedRow) → is_right r ≡ true → IsTyped r.name r.value
-typed_right r h =
-    let a = both (is_name r.name && (has_no_zero r.name && is_utf8 r.name)) _ h in
-    ((both (is_name r.name) _ a.0).1, (both _ (fits_long r.value) a.1).1)
-
-arrival_built : (k : Kept) (es : List Event) (r : SpawnedRow) → StandsFor packet_form k es → row_found packet_form k server Reliable (show_to packet_form client_id r).bytes ≡ Some r
-    → is_built packet_form k.id (accepted_events packet_form (path_peer k.id) es) (Received server Reliable (show_to packet_form client_id r).bytes) ≡ true
-arrival_built k es r h f = sym (built_is packet_form k es server Reliable (show_to packet_form client_id r).bytes h) ∙ ap is_some f
-
-arrival_done : (k : Kept) (es : List Event) (r : SpawnedRow) → StandsFor packet_form k es → is_right r ≡ true → row_found packet_form k server Reliable (show_to packet_form client_id r).bytes ≡ Some r
-    → IsDone packet_form k es (Received server Reliable (show_to packet_form client_id r).bytes) (taken packet_form k (Received server Reliable (show_to packet_form client_id r).bytes))
-arrival_done k es r h right f = taken_done packet_form k es (Received server Reliable (show_to packet_form client_id r).bytes) h (subst IsTypedRow (sym f) (typed_right r right))
-
-pub arrival_answers : (k : Kept) (es : List Event) (r : SpawnedRow) → k.id ≡ client_id → k.up ≡ server ∷ [] → is_right r ≡ true → may_appear k.rows r ≡ true → StandsFor packet_form k es
-    → (taken packet_form k (Received server Reliable (show_to packet_form client_id r).bytes)).outcome ≡ answer packet_form (path_peer k.id) es (Received server Reliable (show_to packet_form client_id r).bytes)
-arrival_answers k es r i u right may h =
-    let f = row_arrives k r i u right may in
-    (arrival_done k es r h right f).answers
-    ∙ ap (λ c. if c then answer packet_form (path_peer k.id) es (Received server Reliable (show_to packet_form client_id r).bytes) else not_built (Received server Reliable (show_to packet_form client_id r).bytes)) (arrival_built k es r h f)
-
-pub arrival_stands : (k : Kept) (es : List Event) (r : SpawnedRow) → k.id ≡ client_id → k.up ≡ server ∷ [] → is_right r ≡ true → may_appear k.rows r ≡ true → StandsFor packet_form k es
-    → StandsFor packet_form (taken packet_form k (Received server Reliable (show_to packet_form client_id r).bytes)).kept (Received server Reliable (show_to packet_form client_id r).bytes ∷ es)
-arrival_stands k es r i u right may h = let f = row_arrives k r i u right may in (arrival_done k es r h right f).stands (arrival_built k es r h f)
-
--- packets for the client are on its link
-pub all_linked : (rows : List SpawnedRow) → filter (λ (x : Out). int_eq x.link client_id) (map (show_to packet_form client_id) rows) ≡ map (show_to packet_form client_id) rows
-all_linked [] = refl
-all_linked (r ∷ rows) = ap (λ xs. show_to packet_form client_id r ∷ xs) (all_linked rows)
+pub step_done : (form : PacketForm) (k : Kept) (es : List Event) (e : Event) → StandsFor form k es → is_built_event e ≡ true → is_answered form k.who es e ≡ true → is_done (taken form k e).outcome ≡ true → IsStep form k.who es e (taken form k e)
+step_done form k es e h built given done =
+    let gs = accepted_events form k.who es in
+    let right = taken_right form k es e h built in
+    let is = answered form k es e h built given in
+    let judged = done_none form k.who gs (heard_of form e) (refusal_of k.who gs (heard_of form e)) (fault_of k.who gs (heard_of form e)) (sym (ap is_done is) ∙ done) in
+    let more = accepted_done k.who (map (heard_of form) es) (heard_of form e) judged.0 judged.1 in
+    let same = same_who form k e in
+    let stands = right.stands given in
+    record {
+      accepts = (subst (AllAccepted k.who) more (subst (λ w. AllAccepted w (accepted_events form w (e ∷ es))) same stands.accepted)).0;
+      more = more;
+      packets = ap packets_in is ∙ ap₂ (λ r f. packets_in (outcome_of form (decided k.who gs (heard_of form e) r f))) judged.0 judged.1;
+      who_is = same;
+      stands = stands;
+    }

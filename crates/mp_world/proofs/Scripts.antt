@@ -1,60 +1,61 @@
--- Every script of the first path is one that a world stands for.
-use Rattle.std.proofs.Common.{◌≡◌, true, false, List, [], ◌∷◌, refl, sym, ap, ◌∙◌, map, Option, Some, None}
-use Rattle.std.proofs.lemmas.Bool.{true≢false}
+-- Every script of built events that happened is one that a world stands for.
+use Rattle.std.proofs.Common.{◌≡◌, true, List, [], ◌∷◌, refl, ap, ◌∙◌, arith}
+use Rattle.std.specs.List.{list_all}
+use Rattle.std.proofs.lemmas.Bool.{and_from}
+use Rattle.scene_model.specs.declared.scene.Scene.{Scene}
 use Rattle.scene_model.specs.declared.world.WorldEvent.{WorldEvent}
+use Rattle.scene_model.specs.Valid.{IsValidScene}
 use Rattle.peer_model.specs.Heard.{server}
-use Rattle.peer_core.specs.FirstPath.{path_scene}
-use Rattle.peer_core.specs.Histories.{Kept}
 use Rattle.peer_core.specs.Steps.{packet_form}
-use Rattle.world_model.specs.World.{World, world_answer, happened}
-use Rattle.world_model.specs.Replicas.{is_joined}
-use Rattle.gd_variant.specs.Words.{has_int}
-use Rattle.mp_world.specs.Steps.{Parts, Made, client_id, connect_event, spawn_event, delivery_event, connect_made, spawn_made, delivery_made, new_peer}
-use Rattle.mp_world.specs.Stands.{ClientStands, HasParts, Stands}
-use Rattle.mp_world.specs.Scripts.{PathEvent, connects, spawns, delivers, event_of, path_world, MayCome, Happened, IsSettled, ReplicasSettle}
-use Rattle.mp_world.proofs.Worlds.{IsRight, world_of, connect_right, spawn_right}
-use Rattle.mp_world.proofs.Deliveries.{delivery_right}
-use Rattle.mp_world.proofs.Reports.{settled}
+use Rattle.world_model.specs.World.{world, happened}
+use Rattle.mp_world.specs.Steps.{Parts, scene_of, first_parts, made}
+use Rattle.mp_world.specs.Stands.{HasParts, Stands, is_built_event, is_sound_event}
+use Rattle.mp_world.specs.Scripts.{Happened, ReplicasSettle}
+use Rattle.mp_world.proofs.Connects.{new_stands}
+use Rattle.mp_world.proofs.Readable.{script_sound, made_readable}
+use Rattle.mp_world.proofs.Worlds.{IsRight, right_at, made_right}
+use Rattle.mp_world.proofs.Replicas.{joined_seen}
+use Rattle.mp_world.proofs.Reports.{report_same}
 
--- a world's parts that stand for a script
-pub record Standing (es : List WorldEvent) : Type 0 where
-  pub parts : Parts
-  pub stands : Stands parts es
-
-first_parts : Parts
-first_parts = record { spent = false; server = new_peer server; client = None; down = record { sent = []; delivered = 0 }; up = record { sent = []; delivered = 0 } }
-
-at_first : Stands first_parts []
-unfolding first_parts
-at_first = record {
+-- the server alone stands for the empty script
+pub first_stands : (s : Scene) → IsValidScene s → HasParts packet_form s (first_parts s) (world packet_form s [])
+first_stands s valid = record {
   live = refl;
-  id = refl;
-  server_stands = record { live = refl; up = refl; nodes = refl; history = record { events = []; heard = refl; right = tt; up = refl; rows = refl } };
-  down = refl;
-  up = refl;
-  client = record { clients = refl; events = refl; none_up = refl; none_sent = refl; none_delivered = refl };
+  who = refl;
+  stands = new_stands s server valid;
+  few = omega arith;
+  numbers = refl;
+  clients = λ i c at. absurd (cc at);
+  new = λ i far. record { none = refl; down_is = refl; up_is = refl; never_up = refl };
 }
 
-after : (es : List WorldEvent) (v : Parts) (e : WorldEvent) (m : Made) → IsRight v es e m → happened (world_answer packet_form path_scene (world_of es) e) ≡ true → Standing (e ∷ es)
-after es v e m r h = record { parts = m.parts; stands = r.stands (ap happened r.answers ∙ h) }
+-- what a world keeps after a script
+abbrev pub parts_after : Scene → List WorldEvent → Parts
+parts_after s [] = first_parts s
+parts_after s (e ∷ es) = (made (parts_after s es) e).parts
 
--- no client connected yet
-none_connected : (v : Parts) (w : World) (o : Option Kept) → v.client ≡ o → ClientStands v o w → w.clients ≡ [] → v.client ≡ None
-none_connected v w None is c e = is
-none_connected v w (Some k) is c e = absurd (cc (sym c.clients ∙ e))
+-- the events of a script that happened are sound
+happened_sound : (s : Scene) (es : List WorldEvent) → Happened s es → list_all is_sound_event es ≡ true
+happened_sound s [] h = refl
+happened_sound s (e ∷ es) h = and_from (is_sound_event e) (list_all is_sound_event es) h.1 (happened_sound s es h.3)
 
-stands_by : (p : PathEvent) (es : List WorldEvent) → MayCome (world_of es) p → happened (world_answer packet_form path_scene (world_of es) (event_of p)) ≡ true → Standing es → Standing (event_of p ∷ es)
-stands_by connects es m h s = after es s.parts connect_event (connect_made s.parts) (connect_right s.parts es s.stands (none_connected s.parts (world_of es) s.parts.client refl s.stands.client m)) h
-stands_by (spawns name value) es m h s = after es s.parts (spawn_event name value) (spawn_made s.parts name value) (spawn_right s.parts es name value s.stands m) h
-stands_by delivers es m h s = after es s.parts delivery_event (delivery_made s.parts) (delivery_right s.parts es s.stands) h
+-- what is kept after a script stands for it
+pub parts_stand : (s : Scene) → IsValidScene s → (es : List WorldEvent) → Happened s es → HasParts packet_form s (parts_after s es) (world packet_form s es)
+parts_stand s valid [] h = first_stands s valid
+parts_stand s valid (e ∷ es) h =
+    let v = parts_after s es in
+    let w = world packet_form s es in
+    let before = parts_stand s valid es h.3 in
+    let r = right_at s v w e before h.0 (made_readable s v w e before h.0 (script_sound s es (happened_sound s es h.3)) h.1) in
+    r.stands (ap happened r.answers ∙ h.2)
 
-pub standing : (ps : List PathEvent) → Happened ps → Standing (map event_of ps)
-standing [] h = record { parts = first_parts; stands = at_first }
-standing (p ∷ ps) h = stands_by p (map event_of ps) h.0 h.1 (standing ps h.2)
-
-settled_by : (v : Parts) (w : World) (o : Option Kept) → HasParts v w → ClientStands v o w → is_joined w server client_id ≡ true → IsSettled w
-settled_by v w None h c j = absurd (true≢false (sym j ∙ ap (λ cs. has_int client_id cs) c.clients))
-settled_by v w (Some k) h c j = record { prefix = refl; all_visible = λ q. settled v k w h c q }
+-- any event of a script whose operations are sound
+pub sound_right : (v : Parts) (es : List WorldEvent) (e : WorldEvent) → Stands v es → list_all is_sound_event es ≡ true → is_built_event e ≡ true → is_sound_event e ≡ true → IsRight v es e (made v e)
+sound_right v es e h sound built now =
+    made_right v es e h built (made_readable (scene_of v) v (world packet_form (scene_of v) es) e h built (script_sound (scene_of v) es sound) now)
 
 pub replicas_settle : ReplicasSettle
-replicas_settle ps h j = let s = standing ps h in settled_by s.parts (path_world ps) s.parts.client s.stands s.stands.client j
+replicas_settle s valid es h a b joined =
+    let stands = parts_stand s valid es h in
+    let seen = joined_seen s (parts_after s es) (world packet_form s es) a b stands joined in
+    record { prefix = seen.seen; all_visible = seen.settles; told = report_same s (parts_after s es) (world packet_form s es) b stands }

@@ -1,172 +1,166 @@
--- What each event makes of a world is what the definitions say.
-use Rattle.std.proofs.Common.{◌≡◌, ℕ, ◌+◌, ◌≤◌, ℤ, pos, true, List, [], ◌∷◌, ◌++◌, length, take, map, filter, refl, sym, ap, ap₂, ◌∙◌, subst, arith, Option, Some, None}
-use Rattle.std.specs.Prelude.{nat_le}
+-- What any built event makes of a world is what the definitions say, and an event that doesn't happen leaves the world as it is.
+use Rattle.std.proofs.Common.{◌≡◌, ℕ, zero, suc, ℤ, Bool, true, false, not, ◌&&◌, ◌||◌, List, [], ◌∷◌, length, refl, sym, ap, ap₂, ◌∙◌, subst, Option, Some, None, Result, Ok}
+use Rattle.std.specs.Prelude.{slice_get, nat_le, if◌then◌else◌, Err}
+use Rattle.std.specs.List.{slice_set}
 use Rattle.std.specs.Ordering.{int_eq}
-use Rattle.std.proofs.Common.{length-append}
-use Rattle.std.proofs.lemmas.List.{take-append-le}
 use Rattle.std.proofs.lemmas.Bool.{true≢false}
-use Rattle.gd_variant.specs.Words.{when}
+use Rattle.gd_variant.specs.declared.message.Message.{Message}
+use Rattle.gd_variant.specs.declared.message.Bad.{Bad}
+use Rattle.scene_model.specs.declared.scene.Scene.{Scene}
+use Rattle.scene_model.specs.declared.spawn.SpawnMsg.{SpawnMsg}
+use Rattle.scene_model.specs.declared.event.Class.{Class}
 use Rattle.scene_model.specs.declared.event.Event.{Event}
-use Rattle.scene_model.specs.declared.event.Event.TheVariants.{Op, Up}
-use Rattle.scene_model.specs.declared.event.Op.TheVariants.{Spawn}
+use Rattle.scene_model.specs.declared.event.Event.TheVariants as event
+use Rattle.scene_model.specs.declared.event.Op.{Op as Operation}
+use Rattle.scene_model.specs.declared.outcome.Outcome.{Outcome}
+use Rattle.scene_model.specs.declared.outcome.Outcome.TheVariants as outcome
 use Rattle.scene_model.specs.declared.outcome.Out.{Out}
-use Rattle.scene_model.specs.declared.outcome.Refusal.{Refusal}
+use Rattle.scene_model.specs.declared.outcome.Fault.{Fault as FaultOf}
 use Rattle.scene_model.specs.declared.world.WorldEvent.{WorldEvent}
-use Rattle.scene_model.specs.declared.world.WorldOutcome.{WorldOutcome}
+use Rattle.scene_model.specs.declared.world.WorldEvent.TheVariants.{Connect, Op, Rel}
 use Rattle.scene_model.specs.declared.world.WorldOutcome.TheVariants as answers
 use Rattle.scene_model.specs.declared.world.WorldNo.TheVariants as refusal
-use Rattle.peer_model.specs.Heard.{server}
-use Rattle.peer_model.specs.Bytes.{answer}
-use Rattle.peer_core.specs.declared.rows.SpawnedRow.{SpawnedRow}
-use Rattle.peer_core.specs.FirstPath.{path_scene, path_peer, path_spawn, IsTyped}
-use Rattle.peer_core.specs.Histories.{Kept, StandsFor, next_row}
-use Rattle.peer_core.specs.Steps.{Taken, packet_form, taken, done_with, show_to, spawn_judged, spawn_taken}
-use Rattle.peer_core.proofs.Lists.{append-nil, map-append}
-use Rattle.world_model.specs.World.{World, Way, world, happens, fed, way_with, packets_in, effects_in, step_of, peer_of, next_client, refused_by, refused_or, peer_answer, connect_answer, world_answer, happened}
-use Rattle.mp_world.specs.Steps.{Parts, Made, client_id, new_peer, connect_event, spawn_event, connect_made, spawn_with, spawn_made}
-use Rattle.mp_world.specs.Stands.{IsApart, ClientStands, HasParts, Stands}
-use Rattle.mp_world.proofs.Peers.{new_stands, server_linked, link_answers, link_stands, server_spawned, spawn_answers, spawn_stands, all_linked}
+use Rattle.peer_model.specs.Heard.{Who, server}
+use Rattle.peer_core.specs.Kept.{Kept}
+use Rattle.peer_core.specs.Judged.{link_judged, shown_judged}
+use Rattle.peer_core.specs.Steps.{packet_form, taken, shown_taken, message_taken, linked_taken, read_taken, spawn_read, is_done, AllReadablePlains}
+use Rattle.peer_core.proofs.Whole.{kept_still}
+use Rattle.world_model.specs.World.{World, world, happens, packets_in, peer_answer, world_answer, happened, way_with}
+use Rattle.mp_world.specs.Steps.{Parts, Made, Client, scene_of, number_of, new_peer, place_of, has_peer, with_packets, with_client, unchanged, connect_with, connect_made, server_made, client_made, client_does, does_at, op_made, deliver_down, deliver_up, delivers_of, delivers_at, rel_made, made, plains_made}
+use Rattle.mp_world.specs.Stands.{HasParts, Stands, is_built_event}
+use Rattle.mp_world.proofs.Places.{no_packets, nothing_put, some_same}
+use Rattle.mp_world.proofs.Operations.{RightAt, op_right}
+use Rattle.mp_world.proofs.Connects.{connect_right}
+use Rattle.mp_world.proofs.Deliveries.{rel_right}
 
-abbrev pub world_of : List WorldEvent → World
-world_of es = world packet_form path_scene es
-
--- the answer of the server, by its number
-server_answer : (v : Parts) (es : List Event) (e : Event) → v.server.id ≡ server → answer packet_form (path_peer v.server.id) es e ≡ answer packet_form (peer_of path_scene server) es e
-server_answer v es e i = ap (λ x. answer packet_form (path_peer x) es e) i
-
--- what is answered, and what stands then
+-- What is answered, and what stands for the script with the event where it happened.
 pub record IsRight (v : Parts) (es : List WorldEvent) (e : WorldEvent) (m : Made) : Type 0 where
-  pub answers : m.outcome ≡ world_answer packet_form path_scene (world_of es) e
+  pub answers : m.outcome ≡ world_answer packet_form (scene_of v) (world packet_form (scene_of v) es) e
   pub stands : happened m.outcome ≡ true → Stands m.parts (e ∷ es)
 
--- a connect
-
--- a world with this client connected
-abbrev connected_as : World → ℤ → World
-connected_as w n = fed packet_form path_scene (fed packet_form path_scene (record w { clients = n ∷ w.clients }) server (Up n)) n (Up server)
-
-abbrev connect_answer_as : World → ℤ → WorldOutcome
-connect_answer_as w n = answers.Done (Some n) (
-    step_of server (effects_in (answer packet_form (peer_of path_scene server) (w.events server) (Up n)))
-    ∷ step_of n (effects_in (answer packet_form (peer_of path_scene n) ((fed packet_form path_scene (record w { clients = n ∷ w.clients }) server (Up n)).events n) (Up server)))
-    ∷ [])
-
-next_is : (w : World) → w.clients ≡ [] → next_client w ≡ client_id
-next_is w h = ap (λ (cs : List ℤ). pos (2 + length cs)) h
-
-pub connect_right : (v : Parts) (es : List WorldEvent) → Stands v es → v.client ≡ None → IsRight v es connect_event (connect_made v)
-connect_right v es h none = record {
-  answers =
-      ap₂ (λ a b. answers.Done (Some client_id) (step_of server (effects_in a) ∷ step_of client_id (effects_in b) ∷ [])) first second
-      ∙ ap (connect_answer_as w) (sym (next_is w apart.clients))
-      ∙ ap (λ o. refused_or o (connect_answer packet_form path_scene w)) (sym not_full);
-  stands = λ _. subst (λ x. HasParts (connect_made v).parts x) (ap (connected_as w) (sym (next_is w apart.clients))) now;
+right_now : (v : Parts) (es : List WorldEvent) (e : WorldEvent) (m : Made) → RightAt (scene_of v) (world packet_form (scene_of v) es) e m → IsRight v es e m
+right_now v es e m r = record {
+  answers = r.answers;
+  stands = λ done. let h = r.stands done in
+      let same : scene_of v ≡ scene_of m.parts = sym (ap (λ (x : Who). x.scene) h.who) in
+      subst (λ s. HasParts packet_form s m.parts (happens packet_form s (world packet_form s es) e)) same h;
 }
+
+-- any event that is built, of a world with any scene
+pub right_at : (s : Scene) (v : Parts) (w : World) (e : WorldEvent) → HasParts packet_form s v w → is_built_event e ≡ true → AllReadablePlains packet_form (plains_made v e) → RightAt s w e (made v e)
+right_at s v w Connect h built read = connect_right s v w h read
+right_at s v w (Op p op) h built read = op_right s v w p op h built read
+right_at s v w (Rel a b) h built read = rel_right s v w a b h
+right_at s v w e h built read = absurd (true≢false (sym built))
+
+-- any event that is built, after any script that the world stands for
+pub made_right : (v : Parts) (es : List WorldEvent) (e : WorldEvent) → Stands v es → is_built_event e ≡ true → AllReadablePlains packet_form (plains_made v e) → IsRight v es e (made v e)
+made_right v es e h built read = right_now v es e (made v e) (right_at (scene_of v) v (world packet_form (scene_of v) es) e h built read)
+
+-- an event that doesn't happen
+
+-- a peer whose answer isn't done sends nothing
+not_happened : (p : ℤ) (o : Outcome) → happened (peer_answer p o) ≡ false → (is_done o ≡ false) × (packets_in o ≡ [])
+not_happened p (outcome.Done effects) h = absurd (true≢false h)
+not_happened p (outcome.Refused r) h = (refl, refl)
+not_happened p (outcome.Fault f) h = absurd (true≢false h)
+
+server_still : (v : Parts) (e : Event) → happened (server_made v e).outcome ≡ false → (server_made v e).parts ≡ v
+server_still v e h =
+    let t = taken packet_form v.server e in
+    let no = not_happened server t.outcome h in
+    ap₂ (λ k ps. record v { server = k; clients = with_packets ps 0 v.clients }) (kept_still packet_form v.server e no.0) no.1
+    ∙ ap (λ cs. record v { clients = cs }) (nothing_put 0 v.clients)
+
+pub set_same : {X : Type 0} (xs : List X) (i : ℕ) (x : X) → slice_get xs i ≡ Some x → slice_set xs i x ≡ xs
+set_same [] i x e = absurd (cc e)
+set_same (y ∷ xs) zero x e = ap (λ z. z ∷ xs) (sym (some_same y x e))
+set_same (y ∷ xs) (suc i) x e = ap (λ zs. y ∷ zs) (set_same xs i x e)
+
+client_still : (v : Parts) (i : ℕ) (c : Client) (e : Event) → slice_get v.clients i ≡ Some c → happened (client_made v i c e).outcome ≡ false → (client_made v i c e).parts ≡ v
+client_still v i c e at h =
+    let t = taken packet_form c.kept e in
+    let no = not_happened (number_of i) t.outcome h in
+    ap₂ (λ k ps. with_client v i (record c { kept = k; up = way_with c.up ps server })) (kept_still packet_form c.kept e no.0) no.1
+    ∙ ap (λ y. with_client v i (record c { up = y })) (no_packets c.up server)
+    ∙ ap (λ cs. record v { clients = cs }) (set_same v.clients i c at)
+
+does_still : (v : Parts) (op : Operation) (o : Option ℕ) → happened (does_at v op o).outcome ≡ false → (does_at v op o).parts ≡ v
+does_still v op None h = refl
+does_still v op (Some i) h = by_client (slice_get v.clients i) refl h
   where
-    w : World
-    w = world_of es
+    by_client : (o : Option Client) → slice_get v.clients i ≡ o → happened (client_does v i op o).outcome ≡ false → (client_does v i op o).parts ≡ v
+    by_client None at k = refl
+    by_client (Some c) at k = client_still v i c (event.Op op) at k
 
-    apart : IsApart v w
-    apart = subst (λ o. ClientStands v o w) none h.client
-
-    not_full : refused_by w connect_event ≡ None
-    not_full = ap (λ (cs : List ℤ). when (nat_le 64 (length cs)) refusal.PeersFull) apart.clients
-
-    first : (taken packet_form v.server (Up client_id)).outcome ≡ answer packet_form (peer_of path_scene server) (w.events server) (Up client_id)
-    first = link_answers v.server (w.events server) client_id h.server_stands ∙ server_answer v (w.events server) (Up client_id) h.id
-
-    second : (taken packet_form (new_peer client_id) (Up server)).outcome ≡ answer packet_form (peer_of path_scene client_id) (w.events client_id) (Up server)
-    second = link_answers (new_peer client_id) [] server new_stands ∙ ap (λ xs. answer packet_form (peer_of path_scene client_id) xs (Up server)) (sym apart.events)
-
-    linked : taken packet_form v.server (Up client_id) ≡ record { outcome = done_with (map (show_to packet_form client_id) v.server.rows); kept = record v.server { up = client_id ∷ [] } }
-    linked = server_linked v.server h.id apart.none_up
-
-    now : HasParts (connect_made v).parts (connected_as w client_id)
-    now = record {
-      live = h.live;
-      id = ap (λ (t : Taken). t.kept.id) linked ∙ h.id;
-      server_stands = link_stands v.server (w.events server) client_id h.server_stands;
-      down = ap₂ (λ y o. way_with y (packets_in o) client_id) h.down first;
-      up = ap₂ (λ y o. way_with y (packets_in o) server) h.up second;
-      client = record {
-        clients = ap (λ cs. client_id ∷ cs) apart.clients;
-        id = refl;
-        stands = subst (λ xs. StandsFor packet_form (taken packet_form (new_peer client_id) (Up server)).kept (Up server ∷ xs)) (sym apart.events) (link_stands (new_peer client_id) [] server new_stands);
-        server_up = ap (λ (t : Taken). t.kept.up) linked;
-        client_up = refl;
-        sent =
-            ap₂ (λ xs (t : Taken). xs ++ filter (λ (x : Out). int_eq x.link client_id) (packets_in t.outcome)) apart.none_sent linked
-            ∙ all_linked v.server.rows
-            ∙ ap (λ (t : Taken). map (show_to packet_form client_id) t.kept.rows) (sym linked);
-        within = subst (λ n. n ≤ length (taken packet_form v.server (Up client_id)).kept.rows) (sym apart.none_delivered) (omega arith);
-        rows = sym (ap (λ n. take n (taken packet_form v.server (Up client_id)).kept.rows) apart.none_delivered);
-      };
-    }
-
--- a spawn
-
-pub no_packets : (y : Way) (b : ℤ) → way_with y [] b ≡ y
-no_packets y b = ap (λ xs. record y { sent = xs }) (append-nil y.sent)
-
-spawn_accepted : (w : World) (name : List ℕ) (value : ℤ) → world_answer packet_form path_scene w (spawn_event name value) ≡ peer_answer server (answer packet_form (peer_of path_scene server) (w.events server) (Op (Spawn (path_spawn name value))))
-spawn_accepted w name value = refl
-
-take_within : (n : ℕ) (xs ys : List SpawnedRow) → n ≤ length xs → take n (xs ++ ys) ≡ take n xs
-take_within n xs ys h = rw take-append-le refl
-
--- a spawn that is done
-spawn_client : (v : Parts) (w x : World) (name : List ℕ) (value : ℤ) (o : Option Kept) → ClientStands v o w → x.clients ≡ w.clients → x.events client_id ≡ w.events client_id
-    → (t : Taken) → t ≡ spawn_taken packet_form v.server name value None → ClientStands (spawn_with v t).parts o x
-spawn_client v w x name value None a c e t is = record {
-  clients = c ∙ a.clients;
-  events = e ∙ a.events;
-  none_up = ap (λ (s : Taken). s.kept.up) is ∙ a.none_up;
-  none_sent =
-      ap₂ (λ xs (s : Taken). xs ++ filter (λ (y : Out). int_eq y.link client_id) (packets_in s.outcome)) a.none_sent is
-      ∙ ap (λ us. filter (λ (y : Out). int_eq y.link client_id) (map (λ b. show_to packet_form b (next_row v.server.rows name value)) us)) a.none_up;
-  none_delivered = a.none_delivered;
-}
-spawn_client v w x name value (Some k) a c e t is =
-    let row = next_row v.server.rows name value in
-    record {
-      clients = c ∙ a.clients;
-      id = a.id;
-      stands = subst (StandsFor packet_form k) (sym e) a.stands;
-      server_up = ap (λ (s : Taken). s.kept.up) is ∙ a.server_up;
-      client_up = a.client_up;
-      sent =
-          ap₂ (λ xs (s : Taken). xs ++ filter (λ (y : Out). int_eq y.link client_id) (packets_in s.outcome)) a.sent is
-          ∙ ap (λ us. map (show_to packet_form client_id) v.server.rows ++ filter (λ (y : Out). int_eq y.link client_id) (map (λ b. show_to packet_form b row) us)) a.server_up
-          ∙ sym (map-append (show_to packet_form client_id) v.server.rows (row ∷ []))
-          ∙ ap (λ (s : Taken). map (show_to packet_form client_id) s.kept.rows) (sym is);
-      within = subst (λ n. v.down.delivered ≤ n) (sym (ap (λ (s : Taken). length s.kept.rows) is)) (omega (arith, a.within, length-append v.server.rows (row ∷ [])));
-      rows = a.rows ∙ sym (take_within v.down.delivered v.server.rows (row ∷ []) a.within) ∙ ap (λ (s : Taken). take v.down.delivered s.kept.rows) (sym is);
-    }
-
-pub spawn_right : (v : Parts) (es : List WorldEvent) (name : List ℕ) (value : ℤ) → Stands v es → IsTyped name value → IsRight v es (spawn_event name value) (spawn_made v name value)
-spawn_right v es name value h typed = record {
-  answers = ap (peer_answer server) answered;
-  stands = λ done. record {
-    live = h.live;
-    id = same_id (spawn_judged name v.server.rows) refl;
-    server_stands = spawn_stands v.server (w.events server) name value h.id typed h.server_stands;
-    down = ap₂ (λ y o. way_with y (packets_in o) client_id) h.down answered;
-    up = h.up;
-    client = spawn_client v w (happens packet_form path_scene w (spawn_event name value)) name value v.client h.client refl refl (taken packet_form v.server (Op (Spawn (path_spawn name value))))
-        (server_spawned v.server name value h.id ∙ ap (spawn_taken packet_form v.server name value) (not_refused (spawn_judged name v.server.rows) refl done));
-  };
-}
+op_still : (v : Parts) (p : ℤ) (op : Operation) → happened (op_made v p op).outcome ≡ false → (op_made v p op).parts ≡ v
+op_still v p op = by_server (int_eq p server)
   where
-    w : World
-    w = world_of es
+    by_server : (b : Bool) → happened (if b then server_made v (event.Op op) else does_at v op (place_of p)).outcome ≡ false → (if b then server_made v (event.Op op) else does_at v op (place_of p)).parts ≡ v
+    by_server true h = server_still v (event.Op op) h
+    by_server false h = does_still v op (place_of p) h
 
-    answered : (taken packet_form v.server (Op (Spawn (path_spawn name value)))).outcome ≡ answer packet_form (peer_of path_scene server) (w.events server) (Op (Spawn (path_spawn name value)))
-    answered = spawn_answers v.server (w.events server) name value h.id typed h.server_stands ∙ server_answer v (w.events server) (Op (Spawn (path_spawn name value))) h.id
+connect_still : (v : Parts) → happened (connect_made v).outcome ≡ false → (connect_made v).parts ≡ v
+connect_still v = by_room (nat_le 64 (length v.clients))
+  where
+    done : Made
+    done = connect_with v (taken packet_form v.server (event.Up (number_of (length v.clients)))) (taken packet_form (new_peer (scene_of v) (number_of (length v.clients))) (event.Up server))
 
-    same_id : (o : Option Refusal) → spawn_judged name v.server.rows ≡ o → (taken packet_form v.server (Op (Spawn (path_spawn name value)))).kept.id ≡ server
-    same_id (Some r) j = ap (λ (t : Taken). t.kept.id) (server_spawned v.server name value h.id ∙ ap (spawn_taken packet_form v.server name value) j) ∙ h.id
-    same_id None j = ap (λ (t : Taken). t.kept.id) (server_spawned v.server name value h.id ∙ ap (spawn_taken packet_form v.server name value) j) ∙ h.id
+    by_room : (b : Bool) → happened (if b then unchanged v (answers.Refused refusal.PeersFull) else done).outcome ≡ false → (if b then unchanged v (answers.Refused refusal.PeersFull) else done).parts ≡ v
+    by_room true h = refl
+    by_room false h = absurd (true≢false h)
 
-    not_refused : (o : Option Refusal) → spawn_judged name v.server.rows ≡ o → happened (spawn_made v name value).outcome ≡ true → spawn_judged name v.server.rows ≡ None
-    not_refused (Some r) j done = absurd (true≢false (sym done ∙ ap (λ (t : Taken). happened (peer_answer server t.outcome)) (server_spawned v.server name value h.id ∙ ap (spawn_taken packet_form v.server name value) j)))
-    not_refused None j done = j
+-- a received packet is never refused
+
+shown_happens : (k : Kept) (from p : ℤ) (s : SpawnMsg) (o : Option FaultOf) → happened (peer_answer p (shown_taken k from s o).outcome) ≡ true
+shown_happens k from p s (Some f) = refl
+shown_happens k from p s None = refl
+
+message_happens : (k : Kept) (from p : ℤ) (s : Option SpawnMsg) → happened (peer_answer p (message_taken k from s).outcome) ≡ true
+message_happens k from p None = refl
+message_happens k from p (Some s) = shown_happens k from p s (shown_judged k.who k.nodes from s)
+
+linked_happens : (k : Kept) (from p : ℤ) (m : Message) (o : Option FaultOf) → happened (peer_answer p (linked_taken k from m o).outcome) ≡ true
+linked_happens k from p m (Some f) = refl
+linked_happens k from p m None = message_happens k from p (spawn_read m)
+
+read_happens : (k : Kept) (from p : ℤ) (r : Result Message Bad) → happened (peer_answer p (read_taken k from r).outcome) ≡ true
+read_happens k from p (Err bad) = refl
+read_happens k from p (Ok m) = linked_happens k from p m (link_judged k.who k.up from)
+
+received_happens : (k : Kept) (from p : ℤ) (class : Class) (bytes : List ℕ) → happened (peer_answer p (taken packet_form k (event.Received from class bytes)).outcome) ≡ true
+received_happens k from p class bytes = read_happens k from p (packet_form.read_packet bytes)
+
+down_still : (v : Parts) (i : ℕ) (c : Client) (o : Option Out) → happened (deliver_down v i c o).outcome ≡ false → (deliver_down v i c o).parts ≡ v
+down_still v i c None h = refl
+down_still v i c (Some x) h = absurd (true≢false (sym (received_happens c.kept server (number_of i) x.class x.bytes) ∙ h))
+
+up_still : (v : Parts) (i : ℕ) (c : Client) (o : Option Out) → happened (deliver_up v i c o).outcome ≡ false → (deliver_up v i c o).parts ≡ v
+up_still v i c None h = refl
+up_still v i c (Some x) h = absurd (true≢false (sym (received_happens v.server (number_of i) server x.class x.bytes) ∙ h))
+
+delivers_still : (v : Parts) (is_down : Bool) (o : Option ℕ) → happened (delivers_at v is_down o).outcome ≡ false → (delivers_at v is_down o).parts ≡ v
+delivers_still v is_down None h = refl
+delivers_still v is_down (Some i) h = by_client is_down (slice_get v.clients i) h
+  where
+    by_client : (d : Bool) (o : Option Client) → happened (delivers_of v d i o).outcome ≡ false → (delivers_of v d i o).parts ≡ v
+    by_client d None k = refl
+    by_client true (Some c) k = down_still v i c (slice_get c.down.sent c.down.delivered) k
+    by_client false (Some c) k = up_still v i c (slice_get c.up.sent c.up.delivered) k
+
+rel_still : (v : Parts) (a b : ℤ) → happened (rel_made v a b).outcome ≡ false → (rel_made v a b).parts ≡ v
+rel_still v a b = by_rows (not (has_peer v a && has_peer v b)) (int_eq a b || (not (int_eq a server) && not (int_eq b server))) (int_eq a server)
+  where
+    by_rows : (x y z : Bool)
+        → happened (if x then unchanged v (answers.Refused refusal.NoPeer) else if y then unchanged v (answers.Refused refusal.NotLink) else if z then delivers_at v true (place_of b) else delivers_at v false (place_of a)).outcome ≡ false
+        → (if x then unchanged v (answers.Refused refusal.NoPeer) else if y then unchanged v (answers.Refused refusal.NotLink) else if z then delivers_at v true (place_of b) else delivers_at v false (place_of a)).parts ≡ v
+    by_rows true y z h = refl
+    by_rows false true z h = refl
+    by_rows false false true h = delivers_still v true (place_of b) h
+    by_rows false false false h = delivers_still v false (place_of a) h
+
+pub made_still : (v : Parts) (e : WorldEvent) → happened (made v e).outcome ≡ false → (made v e).parts ≡ v
+made_still v Connect h = connect_still v h
+made_still v (Op p op) h = op_still v p op h
+made_still v (Rel a b) h = rel_still v a b h
+made_still v e h = refl

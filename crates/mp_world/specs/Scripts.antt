@@ -1,48 +1,28 @@
--- Scripts of the first path, and what the headline says of them.
-use Rattle.std.specs.Prelude.{◌≡◌, ℕ, ℤ, true, List, [], ◌∷◌, take, map}
+-- Scripts of built events, and what the headline says of them.
+use Rattle.std.specs.Prelude.{◌≡◌, ℤ, true, List, [], ◌∷◌, take}
+use Rattle.scene_model.specs.declared.scene.Scene.{Scene}
 use Rattle.scene_model.specs.declared.world.WorldEvent.{WorldEvent}
-use Rattle.peer_model.specs.Heard.{server}
+use Rattle.scene_model.specs.Valid.{IsValidScene}
 use Rattle.peer_model.specs.Updates.{applied}
 use Rattle.peer_model.specs.Changes.{changes, numbers_of, live_numbers}
 use Rattle.peer_model.specs.Visible.{visible_rows}
-use Rattle.peer_core.specs.FirstPath.{path_scene, path_peer, IsTyped}
+use Rattle.peer_model.specs.View.{view, report_of}
 use Rattle.peer_core.specs.Steps.{packet_form}
-use Rattle.world_model.specs.World.{World, world, world_answer, happened}
-use Rattle.world_model.specs.Replicas.{is_joined, is_quiet, arrived, accepted_at, replica}
-use Rattle.mp_world.specs.Steps.{client_id, connect_event, spawn_event, delivery_event}
+use Rattle.world_model.specs.World.{World, world, world_answer, happened, peer_of}
+use Rattle.world_model.specs.Replicas.{is_joined, is_quiet, arrived, accepted_at, replica, reported}
+use Rattle.mp_world.specs.Stands.{is_built_event, is_sound_event}
 
--- what may happen on the first path
-pub data PathEvent : Type 0 where
-  connects : PathEvent
-  spawns : List ℕ → ℤ → PathEvent
-  delivers : PathEvent
+-- each event is built and sound, and it happened: nobody refused it
+abbrev pub Happened : Scene → List WorldEvent → Type 0
+Happened s [] = Unit {0}
+Happened s (e ∷ es) = (is_built_event e ≡ true) × (is_sound_event e ≡ true) × (happened (world_answer packet_form s (world packet_form s es) e) ≡ true) × Happened s es
 
--- the same as any session's event
-abbrev pub event_of : PathEvent → WorldEvent
-event_of connects = connect_event
-event_of (spawns name value) = spawn_event name value
-event_of delivers = delivery_event
-
--- the world of a script of the first path
-abbrev pub path_world : List PathEvent → World
-path_world ps = world packet_form path_scene (map event_of ps)
-
--- one client connects, and a spawn's name is a text and its value has 64 bits
-abbrev pub MayCome : World → PathEvent → Type 0
-MayCome w connects = w.clients ≡ []
-MayCome w (spawns name value) = IsTyped name value
-MayCome w delivers = Unit {0}
-
--- each event happened: it was refused by nobody
-abbrev pub Happened : List PathEvent → Type 0
-Happened [] = Unit {0}
-Happened (p ∷ ps) = MayCome (path_world ps) p × (happened (world_answer packet_form path_scene (path_world ps) (event_of p)) ≡ true) × Happened ps
-
--- While server and client are joined, the client's spawns and values of the server are those that the delivered prefix of the server's changes makes;
--- and once nothing is in flight, all rows that the client may see.
-pub record IsSettled (w : World) : Type 0 where
-  pub prefix : replica packet_form path_scene w server client_id ≡ applied path_scene server (take (arrived packet_form path_scene w server client_id) (changes (path_peer server) (accepted_at packet_form path_scene w server) client_id))
-  pub all_visible : is_quiet w server client_id ≡ true → live_numbers (replica packet_form path_scene w server client_id).rows ≡ numbers_of (visible_rows (path_peer server) (accepted_at packet_form path_scene w server) client_id)
+-- What the second of two joined peers sees of the first, its rows and its fixed nodes, is what the delivered prefix of the first one's changes makes;
+-- once nothing is in flight, these are all rows that the second may see; and so the second reports it.
+pub record IsSettled (s : Scene) (w : World) (a b : ℤ) : Type 0 where
+  pub prefix : view (peer_of s b) (accepted_at packet_form s w b) a ≡ applied s a (take (arrived packet_form s w a b) (changes (peer_of s a) (accepted_at packet_form s w a) b))
+  pub all_visible : is_quiet w a b ≡ true → live_numbers (replica packet_form s w a b).rows ≡ numbers_of (visible_rows (peer_of s a) (accepted_at packet_form s w a) b)
+  pub told : report_of (peer_of s b) (accepted_at packet_form s w b) ≡ reported packet_form s w b
 
 abbrev pub ReplicasSettle : Type 0
-ReplicasSettle = (ps : List PathEvent) → Happened ps → is_joined (path_world ps) server client_id ≡ true → IsSettled (path_world ps)
+ReplicasSettle = (s : Scene) → IsValidScene s → (es : List WorldEvent) → Happened s es → (a b : ℤ) → is_joined (world packet_form s es) a b ≡ true → IsSettled s (world packet_form s es) a b

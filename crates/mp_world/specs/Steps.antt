@@ -1,92 +1,197 @@
--- What a world of the first path keeps, and what each event makes of it.
-use Rattle.std.specs.Prelude.{ℕ, ◌+◌, ℤ, pos, Bool, false, List, [], ◌∷◌, slice_get, Option, Some, None}
-use Rattle.scene_model.specs.declared.event.Event.TheVariants.{Op, Up, Received}
-use Rattle.scene_model.specs.declared.event.Op.TheVariants.{Spawn}
+-- What a world keeps, and what each event makes of it.
+use Rattle.std.specs.Prelude.{ℕ, suc, ◌+◌, ℤ, pos, Bool, true, false, not, ◌&&◌, ◌||◌, List, [], ◌∷◌, ◌++◌, map, length, slice_get, Option, Some, None, is_some, option_map, option_and_then, nat_le, if◌then◌else◌}
+use Rattle.std.specs.List.{slice_set}
+use Rattle.std.specs.Ordering.{int_eq}
+use Rattle.gd_variant.specs.declared.message.Plain.{Plain}
+use Rattle.scene_model.specs.declared.scene.Scene.{Scene}
+use Rattle.scene_model.specs.declared.event.Event.{Event}
+use Rattle.scene_model.specs.declared.event.Event.TheVariants as event
+use Rattle.scene_model.specs.declared.event.Op.{Op as Operation}
 use Rattle.scene_model.specs.declared.outcome.Out.{Out}
 use Rattle.scene_model.specs.declared.world.WorldEvent.{WorldEvent}
-use Rattle.scene_model.specs.declared.world.WorldEvent.TheVariants as event
+use Rattle.scene_model.specs.declared.world.WorldEvent.TheVariants.{Connect, Op, Rel}
 use Rattle.scene_model.specs.declared.world.WorldOutcome.{WorldOutcome}
 use Rattle.scene_model.specs.declared.world.WorldOutcome.TheVariants as answers
 use Rattle.scene_model.specs.declared.world.WorldNo.TheVariants as refusal
+use Rattle.scene_model.specs.declared.report.Report.{Report}
 use Rattle.peer_model.specs.Heard.{server}
-use Rattle.peer_core.specs.FirstPath.{path_spawn}
-use Rattle.peer_core.specs.Histories.{Kept}
-use Rattle.peer_core.specs.Steps.{Taken, packet_form, taken}
-use Rattle.world_model.specs.World.{Way, way_with, packets_in, effects_in, step_of, peer_answer}
+use Rattle.peer_model.specs.View.{row_of}
+use Rattle.peer_core.specs.Kept.{Kept}
+use Rattle.peer_core.specs.Steps.{Taken, packet_form, taken, plains_taken}
+use Rattle.headless_tree.specs.Nodes.{fixed_nodes}
+use Rattle.world_model.specs.World.{Way, way_with, packets_in, effects_in, step_of, peer_answer, most_clients}
 
--- the one client of the first path
-abbrev pub client_id : ℤ
-client_id = pos 2
+-- a client: what it keeps, and both ways of its link
+pub record Client : Type 0 where
+  pub kept : Kept
+  pub down : Way
+  pub up : Way
 
--- what contracts see of a world: whether it is spent, the server, the client where it connected, and both ways of their link
+-- what contracts see of a world: whether it is spent, the server, and the clients by number from 2
 pub record Parts : Type 0 where
   pub spent : Bool
   pub server : Kept
-  pub client : Option Kept
-  pub down : Way
-  pub up : Way
+  pub clients : List Client
 
 -- an answer, with what is kept then
 pub record Made : Type 0 where
   pub outcome : WorldOutcome
   pub parts : Parts
 
+-- the scene that all peers share
+abbrev pub scene_of : Parts → Scene
+scene_of v = v.server.who.scene
+
+-- a world that isn't spent
+abbrev pub live_parts : Kept → List Client → Parts
+live_parts k cs = record { spent = false; server = k; clients = cs }
+
+-- the number of the client at a place, and the place of the client with a number
+abbrev pub number_of : ℕ → ℤ
+number_of i = pos (2 + i)
+
+abbrev pub place_of : ℤ → Option ℕ
+place_of (pos (suc (suc i))) = Some i
+place_of p = None
+
+-- the client with a number
+abbrev pub client_at : Parts → ℤ → Option Client
+client_at v p = option_and_then (slice_get v.clients) (place_of p)
+
+-- whether a peer is there
+abbrev pub has_peer : Parts → ℤ → Bool
+has_peer v p = int_eq p server || is_some (client_at v p)
+
+-- nothing was sent
+abbrev pub empty_way : Way
+empty_way = record { sent = []; delivered = 0 }
+
 -- a new peer
-abbrev pub new_peer : ℤ → Kept
-new_peer id = record { id = id; spent = false; up = []; rows = [] }
+abbrev pub new_peer : Scene → ℤ → Kept
+new_peer s id = record { who = record { id = id; scene = s }; spent = false; come = []; up = []; nodes = fixed_nodes s; next = 1; rows = [] }
 
--- the events of the first path
-abbrev pub connect_event : WorldEvent
-connect_event = event.Connect
+-- the server alone
+abbrev pub first_parts : Scene → Parts
+first_parts s = record { spent = false; server = new_peer s server; clients = [] }
 
--- a spawn at the server
-abbrev pub spawn_event : List ℕ → ℤ → WorldEvent
-spawn_event name value = event.Op server (Spawn (path_spawn name value))
+-- a new client that sent these packets
+abbrev pub new_client : Kept → List Out → Client
+new_client k packets = record { kept = k; down = empty_way; up = way_with empty_way packets server }
 
--- a delivery from the server to the client
-abbrev pub delivery_event : WorldEvent
-delivery_event = event.Rel server client_id
-
--- a connect, by what both ends do
-abbrev pub connect_with : Parts → Taken → Taken → Made
-connect_with v s c = record {
-  outcome = answers.Done (Some client_id) (step_of server (effects_in s.outcome) ∷ step_of client_id (effects_in c.outcome) ∷ []);
-  parts = record v { server = s.kept; client = Some c.kept; down = way_with v.down (packets_in s.outcome) client_id; up = way_with v.up (packets_in c.outcome) server };
-}
-
--- the client's link comes up at the server, and the server's at the client
-abbrev pub connect_made : Parts → Made
-connect_made v = connect_with v (taken packet_form v.server (Up client_id)) (taken packet_form (new_peer client_id) (Up server))
-
--- a spawn, by what the server does
-abbrev pub spawn_with : Parts → Taken → Made
-spawn_with v s = record { outcome = peer_answer server s.outcome; parts = record v { server = s.kept; down = way_with v.down (packets_in s.outcome) client_id } }
-
--- the server spawns
-abbrev pub spawn_made : Parts → List ℕ → ℤ → Made
-spawn_made v name value = spawn_with v (taken packet_form v.server (Op (Spawn (path_spawn name value))))
+-- clients from a place on, with the server's packets for them on their ways
+abbrev pub with_packets : List Out → ℕ → List Client → List Client
+with_packets packets i [] = []
+with_packets packets i (c ∷ cs) = record c { down = way_with c.down packets (number_of i) } ∷ with_packets packets (suc i) cs
 
 -- nothing changes
 abbrev pub unchanged : Parts → WorldOutcome → Made
 unchanged v o = record { outcome = o; parts = v }
 
--- a delivery, by what the client does
-abbrev pub delivery_with : Parts → Taken → Made
-delivery_with v c = record {
-  outcome = peer_answer client_id c.outcome;
-  parts = record v { client = Some c.kept; down = record v.down { delivered = v.down.delivered + 1 }; up = way_with v.up (packets_in c.outcome) server };
+-- a connect, by what both ends do
+abbrev pub connect_with : Parts → Taken → Taken → Made
+connect_with v s c = record {
+  outcome = answers.Done (Some (number_of (length v.clients))) (step_of server (effects_in s.outcome) ∷ step_of (number_of (length v.clients)) (effects_in c.outcome) ∷ []);
+  parts = record v { server = s.kept; clients = with_packets (packets_in s.outcome) 0 (v.clients ++ new_client c.kept (packets_in c.outcome) ∷ []) };
 }
 
--- a delivery to a client, by the packet that waits
-abbrev pub delivery_of : Parts → Kept → Option Out → Made
-delivery_of v k None = unchanged v (answers.Refused refusal.NothingInFlight)
-delivery_of v k (Some x) = delivery_with v (taken packet_form k (Received server x.class x.bytes))
+-- a new client's link comes up at the server, and the server's at the client
+abbrev pub connect_made : Parts → Made
+connect_made v =
+    if nat_le most_clients (length v.clients) then unchanged v (answers.Refused refusal.PeersFull)
+    else connect_with v (taken packet_form v.server (event.Up (number_of (length v.clients)))) (taken packet_form (new_peer (scene_of v) (number_of (length v.clients))) (event.Up server))
 
--- a delivery, by whether the client connected
-abbrev pub delivery_to : Parts → Option Kept → Made
-delivery_to v None = unchanged v (answers.Refused refusal.NoPeer)
-delivery_to v (Some k) = delivery_of v k (slice_get v.down.sent v.down.delivered)
+-- an event at the server
+abbrev pub server_with : Parts → Taken → Made
+server_with v t = record { outcome = peer_answer server t.outcome; parts = record v { server = t.kept; clients = with_packets (packets_in t.outcome) 0 v.clients } }
 
--- the next packet from the server to the client
-abbrev pub delivery_made : Parts → Made
-delivery_made v = delivery_to v v.client
+-- the server takes an event
+abbrev pub server_made : Parts → Event → Made
+server_made v e = server_with v (taken packet_form v.server e)
+
+-- a world with another client at a place
+abbrev pub with_client : Parts → ℕ → Client → Parts
+with_client v i c = record v { clients = slice_set v.clients i c }
+
+-- an event at the client at a place
+abbrev pub client_with : Parts → ℕ → Client → Taken → Made
+client_with v i c t = record { outcome = peer_answer (number_of i) t.outcome; parts = with_client v i (record c { kept = t.kept; up = way_with c.up (packets_in t.outcome) server }) }
+
+-- the client at a place takes an event
+abbrev pub client_made : Parts → ℕ → Client → Event → Made
+client_made v i c e = client_with v i c (taken packet_form c.kept e)
+
+-- an operation of the client at a place, where there is one
+abbrev pub client_does : Parts → ℕ → Operation → Option Client → Made
+client_does v i op None = unchanged v (answers.Refused refusal.NoPeer)
+client_does v i op (Some c) = client_made v i c (event.Op op)
+
+-- an operation by the place of its peer among the clients
+abbrev pub does_at : Parts → Operation → Option ℕ → Made
+does_at v op None = unchanged v (answers.Refused refusal.NoPeer)
+does_at v op (Some i) = client_does v i op (slice_get v.clients i)
+
+-- an operation
+abbrev pub op_made : Parts → ℤ → Operation → Made
+op_made v p op = if int_eq p server then server_made v (event.Op op) else does_at v op (place_of p)
+
+-- a way of which one packet more was delivered
+abbrev pub one_more : Way → Way
+one_more y = record y { delivered = y.delivered + 1 }
+
+-- the next packet for the client at a place
+abbrev pub deliver_down : Parts → ℕ → Client → Option Out → Made
+deliver_down v i c None = unchanged v (answers.Refused refusal.NothingInFlight)
+deliver_down v i c (Some x) = client_made v i (record c { down = one_more c.down }) (event.Received server x.class x.bytes)
+
+-- the next packet from the client at a place
+abbrev pub deliver_up : Parts → ℕ → Client → Option Out → Made
+deliver_up v i c None = unchanged v (answers.Refused refusal.NothingInFlight)
+deliver_up v i c (Some x) = server_made (with_client v i (record c { up = one_more c.up })) (event.Received (number_of i) x.class x.bytes)
+
+-- a delivery to or from a client, where there is one
+abbrev pub delivers_of : Parts → Bool → ℕ → Option Client → Made
+delivers_of v is_down i None = unchanged v (answers.Refused refusal.NoPeer)
+delivers_of v is_down i (Some c) = if is_down then deliver_down v i c (slice_get c.down.sent c.down.delivered) else deliver_up v i c (slice_get c.up.sent c.up.delivered)
+
+-- a delivery to or from the client at a place, where there is one
+abbrev pub delivers_at : Parts → Bool → Option ℕ → Made
+delivers_at v is_down None = unchanged v (answers.Refused refusal.NoPeer)
+delivers_at v is_down (Some i) = delivers_of v is_down i (slice_get v.clients i)
+
+-- a delivery: one end is the server
+abbrev pub rel_made : Parts → ℤ → ℤ → Made
+rel_made v a b =
+    if not (has_peer v a && has_peer v b) then unchanged v (answers.Refused refusal.NoPeer)
+    else if int_eq a b || (not (int_eq a server) && not (int_eq b server)) then unchanged v (answers.Refused refusal.NotLink)
+    else if int_eq a server then delivers_at v true (place_of b)
+    else delivers_at v false (place_of a)
+
+-- any event that is built
+abbrev pub made : Parts → WorldEvent → Made
+made v Connect = connect_made v
+made v (Op p op) = op_made v p op
+made v (Rel a b) = rel_made v a b
+made v e = unchanged v (answers.Done None [])
+
+-- the plain packets that an operation of a client sends, where there is one
+abbrev pub client_plains : Operation → Option Client → List Plain
+client_plains op None = []
+client_plains op (Some c) = plains_taken c.kept (event.Op op)
+
+-- the plain packets that a connect sends, where there is room: a new client has nothing to show
+abbrev pub connect_plains : Parts → List Plain
+connect_plains v = if nat_le most_clients (length v.clients) then [] else plains_taken v.server (event.Up (number_of (length v.clients)))
+
+-- the plain packets that an event sends; a delivery sends nothing
+abbrev pub plains_made : Parts → WorldEvent → List Plain
+plains_made v Connect = connect_plains v
+plains_made v (Op p op) = if int_eq p server then plains_taken v.server (event.Op op) else client_plains op (client_at v p)
+plains_made v e = []
+
+-- what is kept of a peer, where it is there
+abbrev pub kept_at : Parts → ℤ → Option Kept
+kept_at v p = if int_eq p server then Some v.server else option_map (λ (c : Client). c.kept) (client_at v p)
+
+-- what is reported of a peer, by what it keeps
+abbrev pub kept_report : Kept → Report
+kept_report k = record { peers = k.up; rows = map row_of k.nodes }

@@ -1,9 +1,16 @@
 //! The links between the peers of a session: what was sent on each, how much was delivered, and what each peer holds.
 //!
-//! The first path is built: a server, one client, and reliable packets from the server to it.
+//! Built so far are a server with up to 64 clients, operations, and reliable packets.
 #![tactic(auto)]
 
+mod client;
+mod connect;
+mod deliver;
 mod laws;
+mod operate;
+mod steps;
+#[cfg(test)]
+mod tests;
 mod way;
 mod world;
 

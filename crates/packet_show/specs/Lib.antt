@@ -1,5 +1,1 @@
-pub mod Judged
 pub mod Shown
-pub mod Output
-pub mod Ends
-pub mod Steps

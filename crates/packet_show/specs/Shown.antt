@@ -1,5 +1,5 @@
 -- The text that shows a line.
-use Rattle.std.specs.Prelude.{◌≡◌, ℕ, List, Option, Some, None, Result, Ok, Err}
+use Rattle.std.specs.Prelude.{◌≡◌, ℕ, List, Result, Ok, Err}
 use Rattle.gd_variant.specs.declared.message.Bad.{Bad}
 use Rattle.gd_variant.specs.declared.message.Message.{Message}
 use Rattle.hex.specs.Hex.{decode_of}
@@ -7,8 +7,11 @@ use Rattle.hex.specs.declared.error.FromHexError.{FromHexError}
 use Rattle.hex.specs.declared.error.FromHexError.TheVariants as hex
 use Rattle.packet_codec.specs.Packets.{read_packet}
 use Rattle.session_text.specs.Messages.{bad_line, message_line}
-use Rattle.packet_show.specs.declared.lines.LineStop.{LineStop}
-use Rattle.packet_show.specs.declared.lines.LineStop.TheVariants.{NotHex, OutOfMemory}
+use Rattle.session_text.specs.declared.status.LineWhy.{LineWhy}
+use Rattle.session_text.specs.declared.status.LineWhy.TheVariants.{Hex}
+use Rattle.session_text.specs.declared.stop.LineStop.{LineStop}
+use Rattle.session_text.specs.declared.stop.LineStop.TheVariants.{LineBad, OutOfMemory}
+use Rattle.line_runs.specs.Output.{Telling}
 
 -- what reading a packet came to
 abbrev pub read_line : Result Message Bad → List ℕ
@@ -20,21 +23,36 @@ unfoldable pub packet_line : List ℕ → List ℕ
 packet_line packet = read_line (read_packet packet)
 
 -- by what the hexadecimal stands for
-abbrev pub shown_by : Result (List ℕ) FromHexError → Option (List ℕ)
-shown_by (Ok packet) = Some (packet_line packet)
-shown_by (Err e) = None
+abbrev pub shown_by : Result (List ℕ) FromHexError → Result (List ℕ) LineWhy
+shown_by (Ok packet) = Ok (packet_line packet)
+shown_by (Err e) = Err Hex
 
--- the line that a line gives; none where it isn't an even number of hexadecimal digits
-unfoldable pub shown : List ℕ → Option (List ℕ)
+-- the line that a line gives, or that it isn't an even number of hexadecimal digits
+unfoldable pub shown : List ℕ → Result (List ℕ) LineWhy
 shown line = shown_by (decode_of line)
+
+-- the same, whatever lines came before
+abbrev pub show_told : Telling
+show_told ls line = shown line
 
 -- why a line gives none
 abbrev pub stop_of : FromHexError → LineStop
 stop_of hex.OutOfMemory = OutOfMemory
-stop_of e = NotHex
+stop_of e = LineBad Hex
 
 -- what a line comes to
 abbrev pub TextOf : List ℕ → Result (List ℕ) LineStop → Type 0
-TextOf line (Ok text) = shown line ≡ Some text
-TextOf line (Err NotHex) = shown line ≡ None
+TextOf line (Ok text) = shown line ≡ Ok text
+TextOf line (Err (LineBad why)) = shown line ≡ Err why
 TextOf line (Err OutOfMemory) = Unit {0}
+
+-- a line stops a run of `show` for one reason alone
+abbrev pub IsHex : LineWhy → Type 0
+IsHex reason = reason ≡ Hex
+
+-- the most bytes of a line, and the most bytes of an input that are judged
+abbrev pub longest_line : ℕ
+longest_line = 33554432
+
+abbrev pub most_judged : ℕ
+most_judged = 1073741824

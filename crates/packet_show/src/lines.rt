@@ -5,16 +5,8 @@ ghost use Rattle.packet_show.specs.Shown.{TextOf, packet_line, stop_of};
 use gd_variant::{Bytes, OutOfMemory};
 use hex::FromHexError;
 use packet_codec::{CodecStop, decode_packet};
-use session_text::{bad_text, message_text};
+use session_text::{LineStop, LineWhy, bad_text, message_text};
 use std::alloc::Global;
-
-/// Why a line gives nothing to write.
-#[derive(Clone, Copy, Debug, Drop, PartialEq, Eq)]
-pub enum LineStop {
-    /// It isn't an even number of hexadecimal digits.
-    NotHex,
-    OutOfMemory,
-}
 
 /// The text that shows a packet, or says why the bytes are none.
 fn packet_text(alloc: Global, packet: &[u8]) -> Result<Bytes, OutOfMemory>
@@ -33,7 +25,7 @@ fn hex_stop(e: FromHexError) -> LineStop
 {
     match e {
         FromHexError::OutOfMemory => LineStop::OutOfMemory,
-        _ => LineStop::NotHex,
+        _ => LineStop::LineBad(LineWhy::Hex),
     }
 }
 

@@ -1,6 +1,7 @@
 //! Runs over sources and sinks that give little or fail, and over small limits.
-use crate::run::show_lines;
+use crate::run::Shower;
 use gd_variant::OutOfMemory;
+use line_runs::run_lines;
 use session_text::{MemSink, MemSource, Status};
 use std::alloc::Global;
 
@@ -36,7 +37,8 @@ fn shown(
     let bytes = Vec::from_slice(alloc, input.as_bytes())?;
     let mut source = MemSource::new(bytes, 10, calls(alloc, take)?);
     let mut sink = MemSink::new(Vec::new(alloc), calls(alloc, put)?);
-    let status = show_lines(alloc, longest, limit, &mut source, &mut sink);
+    let mut shower = Shower;
+    let status = run_lines(alloc, longest, limit, &mut shower, &mut source, &mut sink);
     let held = String::from_utf8_lossy(alloc, sink.as_slice())?;
     Ok((status, held))
 }

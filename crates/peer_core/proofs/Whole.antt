@@ -1,72 +1,379 @@
--- Any event: what is answered, and what is kept then.
-use Rattle.std.proofs.Common.{◌≡◌, ℕ, ℤ, Bool, true, false, ◌&&◌, List, ◌∷◌, refl, sym, ap, ◌∙◌, subst, is_some, Option, Some, None}
-use Rattle.std.specs.Prelude.{if◌then◌else◌}
+-- Any event: what is answered is what the definitions give, and what is kept then stands for the events with it.
+use Rattle.std.proofs.Common.{◌≡◌, ℕ, ◌+◌, ℤ, Bool, true, false, not, ◌&&◌, ◌||◌, List, [], ◌∷◌, ◌++◌, refl, sym, ap, ap₂, ◌∙◌, subst, map, filter, reverse, length, is_some, Option, Some, None, Ok}
+use Rattle.std.specs.Prelude.{if◌then◌else◌, is_none, int_lt, Result, Err}
 use Rattle.std.specs.Ordering.{int_eq}
-use Rattle.std.proofs.lemmas.Bool.{true≢false}
+use Rattle.std.proofs.lemmas.Bool.{true≢false, and_parts, or_parts}
+use Rattle.std.proofs.lemmas.Grind.{reverse_onto}
+use Rattle.std.proofs.lemmas.List.{map-append}
+use Rattle.gd_variant.specs.Words.{put_by, or_else, first_some}
+use Rattle.gd_variant.specs.declared.value.Variant.{Variant}
+use Rattle.gd_variant.specs.declared.message.Plain.TheVariants as packet
+use Rattle.gd_variant.specs.declared.message.Message.{Message}
+use Rattle.gd_variant.specs.declared.message.Message.TheVariants.{Plain as plain_packet}
+use Rattle.gd_variant.specs.declared.message.Bad.{Bad}
+use Rattle.scene_model.specs.declared.spawn.SpawnMsg.{SpawnMsg}
+use Rattle.scene_model.specs.declared.event.SpawnOp.{SpawnOp}
+use Rattle.scene_model.specs.declared.event.Class.{Class}
 use Rattle.scene_model.specs.declared.event.Event.{Event}
 use Rattle.scene_model.specs.declared.event.Event.TheVariants.{Op, Up, Down, Received}
 use Rattle.scene_model.specs.declared.event.Op.{Op as Operation}
-use Rattle.scene_model.specs.declared.event.Op.TheVariants.{Spawn}
-use Rattle.scene_model.specs.declared.event.SpawnOp.{SpawnOp}
-use Rattle.scene_model.specs.declared.event.Class.{Class}
-use Rattle.peer_model.specs.Heard.{server}
-use Rattle.peer_model.specs.Bytes.{PacketForm, answer, accepted_events}
-use Rattle.peer_core.specs.declared.rows.SpawnedRow.{SpawnedRow}
-use Rattle.peer_core.specs.FirstPath.{path_peer, spawn_in}
-use Rattle.peer_core.specs.Histories.{Kept, StandsFor}
-use Rattle.peer_core.specs.Steps.{Taken, taken, unchanged, spawn_taken, spawn_judged, found_taken, spawn_found, row_found, row_taken, IsTypedSpawn, IsTypedRow, IsTypedEvent}
-use Rattle.peer_core.specs.Built.{is_built, not_built, path_answer}
-use Rattle.peer_core.proofs.Apart.{spawn_is}
-use Rattle.peer_core.proofs.Taken.{Right, link_right, spawn_right}
-use Rattle.peer_core.proofs.Received.{found_is, received_right, built_is}
+use Rattle.scene_model.specs.declared.event.Op.TheVariants.{Spawn, Set}
+use Rattle.scene_model.specs.declared.outcome.Refusal.{Refusal}
+use Rattle.scene_model.specs.declared.outcome.Out.{Out}
+use Rattle.scene_model.specs.declared.outcome.Fault.{Fault as FaultOf}
+use Rattle.scene_model.specs.declared.outcome.Fault.TheVariants as fault_why
+use Rattle.peer_model.specs.Heard.{Who, Heard, does, comes, goes, gets, is_server, server}
+use Rattle.peer_model.specs.Peers.{is_up, was_up, peers_come, peers_up}
+use Rattle.peer_model.specs.Rows.{own_rows, row_made, next_number, syncs_at, spawned_scene}
+use Rattle.peer_model.specs.Updates.{Live, shown_node}
+use Rattle.peer_model.specs.View.{tree_of, view}
+use Rattle.peer_model.specs.Refusals.{refusal_of}
+use Rattle.peer_model.specs.Faults.{fault_of, link_fault, spawn_fault, message_fault}
+use Rattle.peer_model.specs.Answer.{sends, runs, raws, skips}
+use Rattle.peer_model.specs.Bytes.{PacketForm, heard_of, accepted_events}
+use Rattle.headless_tree.specs.Nodes.{row_before, assigned, without_rows}
+use Rattle.peer_laws.specs.Built.{Accepts, is_built_op, is_built_message, is_unbuilt}
+use Rattle.peer_laws.specs.Shown.{is_open, spawned_live}
+use Rattle.peer_laws.proofs.Tests.{no_answer, not_false}
+use Rattle.peer_laws.specs.Facts.{Facts}
+use Rattle.peer_laws.proofs.Ups.{ups_come, ups_go, come_is_new, not_this}
+use Rattle.peer_laws.proofs.TreeLinks.{tree_come, tree_go}
+use Rattle.peer_laws.proofs.TreeSets.{tree_set}
+use Rattle.peer_laws.proofs.TreeSpawns.{tree_spawn}
+use Rattle.peer_laws.proofs.TreeReceives.{tree_receive}
+use Rattle.peer_laws.proofs.Views.{shown_by, view_rows_under}
+use Rattle.peer_laws.proofs.FactsOf.{facts}
+use Rattle.peer_laws.proofs.Sends.{sends_come, sends_go, sends_set, sends_spawn, sends_receive}
+use Rattle.peer_laws.proofs.Rows.{rows_come, rows_go, rows_set, rows_spawn, rows_receive, next_come, next_go, next_set, next_spawn, next_receive}
+use Rattle.peer_core.specs.Kept.{Kept, kept_row}
+use Rattle.peer_core.specs.Judged.{up_judged, down_judged, spawn_judged, set_judged, link_judged, shown_judged}
+use Rattle.peer_core.specs.Stands.{HasParts, StandsFor, is_answered, is_built_event}
+use Rattle.peer_core.specs.Steps.{done_with, taken, up_taken, down_taken, set_taken, spawn_taken, op_taken, shown_taken, message_taken, linked_taken, read_taken, spawn_read, with_spawn, row_of_spawn, shows_of, shows_to, open_rows, row_packet, sent_to, is_done}
+use Rattle.peer_core.proofs.Judging.{up_judged_is, down_judged_is, spawn_judged_is, set_judged_is, link_judged_is, shown_judged_is}
+pub use Rattle.peer_core.proofs.Accepted.{Right}
+use Rattle.peer_core.proofs.Accepted.{refused_right, fault_right, unbuilt_right, done_sends, done_right}
+use Rattle.peer_core.proofs.Packets.{all_shown, shown_where_open, all_direct, rows_are_plain}
 
--- what is done with an event: the path's answer, and, where the event is built, what stands for the events with it
-pub record IsDone (form : PacketForm) (k : Kept) (es : List Event) (e : Event) (t : Taken) : Type 0 where
-  pub answers : t.outcome ≡ path_answer form k.id es e
-  pub stands : is_built form k.id (accepted_events form (path_peer k.id) es) e ≡ true → StandsFor form t.kept (e ∷ es)
+-- a link that comes up
 
-built_done : (form : PacketForm) (k : Kept) (es : List Event) (e : Event) (t : Taken) → is_built form k.id (accepted_events form (path_peer k.id) es) e ≡ true → Right form k es e t → IsDone form k es e t
-built_done form k es e t b r = record {
-  answers = r.answers ∙ sym (ap (λ c. if c then answer form (path_peer k.id) es e else not_built e) b);
-  stands = λ _. r.stands;
-}
+-- a link that is accepted
+come_done : (form : PacketForm) (k : Kept) (es : List Event) (b : ℤ) → StandsFor form k es → up_judged k.who k.come k.up b ≡ None → Right form k es (Up b) (up_taken form k b None)
+come_done form k es b h free = done_right form k j es (Up b) (done_with (shows_to form k b)) refl refl no_refusal refl
+    (ap₂ (λ ns rs. done_with (map (λ r. sent_to form b (row_packet k.who.scene ns r)) (open_rows k.who.scene rs))) h.nodes h.rows
+    ∙ ap done_with (all_shown form k.who (tree_of k.who gs) b new.2 (own_rows k.who gs) (rows_are_plain k.who gs h.accepted))
+    ∙ sym (done_sends form k.who (comes b) gs _ (sends_come k.who gs b h.valid h.accepted known fresh) refl refl refl))
+    (record {
+      live = h.live;
+      valid = h.valid;
+      accepted = (fresh, h.accepted);
+      come = ap (λ cs. cs ++ b ∷ []) h.come ∙ sym (reverse_onto (peers_come gs) b []);
+      up = ap (put_by int_lt b) h.up ∙ sym (ups_come gs b new.1);
+      nodes = h.nodes ∙ sym (tree_come k.who gs known b fresh);
+      next = h.next ∙ sym (next_come k.who gs b);
+      rows = h.rows ∙ sym (ap (map (kept_row k.who)) (rows_come k.who gs b));
+    })
+  where
+    gs : List Heard
+    gs = accepted_events form k.who es
 
-unbuilt_done : (form : PacketForm) (k : Kept) (es : List Event) (e : Event) → is_built form k.id (accepted_events form (path_peer k.id) es) e ≡ false → IsDone form k es e (unchanged k (not_built e))
-unbuilt_done form k es e b = record {
-  answers = sym (ap (λ c. if c then answer form (path_peer k.id) es e else not_built e) b);
-  stands = λ c. absurd (true≢false (sym c ∙ b));
-}
+    j : Kept
+    j = record k { come = k.come ++ b ∷ []; up = put_by int_lt b k.up }
 
--- an operation, by the spawn that it is
+    no_refusal : refusal_of k.who gs (comes b) ≡ None
+    no_refusal = sym (up_judged_is k gs h b) ∙ free
 
-if_some : {X : Type 0} (b : Bool) (o : Option X) (x : X) → (if b then o else None) ≡ Some x → (b ≡ true) × (o ≡ Some x)
-if_some true o x h = (refl, h)
-if_some false o x h = absurd (cc h)
+    known : Facts k.who gs
+    known = facts k.who gs h.valid h.accepted
 
-some_found : (b : Bool) (o : Option (List ℕ × ℤ)) → is_some (if b then o else None) ≡ (b && is_some o)
-some_found true o = refl
-some_found false o = refl
+    fresh : Accepts k.who gs (comes b)
+    fresh = record { built = refl; no_refusal = no_refusal; no_fault = refl }
 
-spawn_done : (form : PacketForm) (k : Kept) (es : List Event) (o : SpawnOp) (f : Option (List ℕ × ℤ)) → (if int_eq k.id server then spawn_in o else None) ≡ f → StandsFor form k es → IsTypedSpawn f → IsDone form k es (Op (Spawn o)) (found_taken form k f)
-spawn_done form k es o None e stands t = unbuilt_done form k es (Op (Spawn o)) (sym (some_found (int_eq k.id server) (spawn_in o)) ∙ ap is_some e)
-spawn_done form k es o (Some s) e stands t =
-    let two = if_some (int_eq k.id server) (spawn_in o) s e in
-    built_done form k es (Op (Spawn o)) (found_taken form k (Some s)) (sym (some_found (int_eq k.id server) (spawn_in o)) ∙ ap is_some e)
-    (subst (λ p. Right form k es (Op (Spawn p)) (spawn_taken form k s.0 s.1 (spawn_judged s.0 k.rows))) (sym (spawn_is o s two.1)) (spawn_right form k es s.0 s.1 two.0 stands t))
+    new : (int_eq b k.who.id ≡ false) × (was_up gs b ≡ false) × ((is_server k.who || int_eq b server) ≡ true)
+    new = come_is_new k.who gs b fresh
 
-operation_done : (form : PacketForm) (k : Kept) (es : List Event) (op : Operation) → StandsFor form k es → IsTypedSpawn (spawn_found k.id op) → IsDone form k es (Op op) (found_taken form k (spawn_found k.id op))
-operation_done form k es (Spawn o) stands t = spawn_done form k es o (if int_eq k.id server then spawn_in o else None) refl stands t
-operation_done form k es op stands t = unbuilt_done form k es (Op op) refl
+up_right : (form : PacketForm) (k : Kept) (es : List Event) (b : ℤ) → StandsFor form k es → (o : Option Refusal) → up_judged k.who k.come k.up b ≡ o → Right form k es (Up b) (up_taken form k b o)
+up_right form k es b h (Some r) judged = refused_right form k es (Up b) r h refl (sym (up_judged_is k (accepted_events form k.who es) h b) ∙ judged)
+up_right form k es b h None judged = come_done form k es b h judged
 
--- a received packet, by the row that it brings
-received_done : (form : PacketForm) (k : Kept) (es : List Event) (from : ℤ) (class : Class) (bytes : List ℕ) (f : Option SpawnedRow) → row_found form k from class bytes ≡ f → StandsFor form k es → IsTypedRow f → IsDone form k es (Received from class bytes) (row_taken k f)
-received_done form k es from class bytes None e stands t = unbuilt_done form k es (Received from class bytes) (sym (built_is form k es from class bytes stands) ∙ ap is_some e)
-received_done form k es from class bytes (Some r) e stands t = built_done form k es (Received from class bytes) (row_taken k (Some r)) (sym (built_is form k es from class bytes stands) ∙ ap is_some e)
-    (received_right form k es from class bytes r stands t (found_is form k from class bytes r e))
+-- a link that goes down
 
--- any event
-pub taken_done : (form : PacketForm) (k : Kept) (es : List Event) (e : Event) → StandsFor form k es → IsTypedEvent form k e → IsDone form k es e (taken form k e)
-taken_done form k es (Up b) stands t = built_done form k es (Up b) (taken form k (Up b)) refl (link_right form k es b stands)
-taken_done form k es (Op op) stands t = operation_done form k es op stands t
-taken_done form k es (Received from class bytes) stands t = received_done form k es from class bytes (row_found form k from class bytes) refl stands t
-taken_done form k es (Down b) stands t = unbuilt_done form k es (Down b) refl
+go_done : (form : PacketForm) (k : Kept) (es : List Event) (b : ℤ) → StandsFor form k es → down_judged k.up b ≡ None → Right form k es (Down b) (down_taken k b None)
+go_done form k es b h free = done_right form k j es (Down b) (done_with []) refl refl no_refusal refl
+    (sym (done_sends form k.who (goes b) gs [] (sends_go k.who gs b h.valid h.accepted fresh) refl refl refl))
+    (record {
+      live = h.live;
+      valid = h.valid;
+      accepted = (fresh, h.accepted);
+      come = h.come;
+      up = ap (filter (λ c. not (int_eq c b))) h.up ∙ sym (ups_go gs b);
+      nodes = ap (without_rows b) h.nodes ∙ sym (tree_go k.who gs h.valid h.accepted known b fresh);
+      next = h.next ∙ sym (next_go k.who gs b);
+      rows = h.rows ∙ sym (ap (map (kept_row k.who)) (rows_go k.who gs b));
+    })
+  where
+    gs : List Heard
+    gs = accepted_events form k.who es
+
+    j : Kept
+    j = record k { up = filter (λ c. not (int_eq c b)) k.up; nodes = without_rows b k.nodes }
+
+    no_refusal : refusal_of k.who gs (goes b) ≡ None
+    no_refusal = sym (down_judged_is k gs h b) ∙ free
+
+    known : Facts k.who gs
+    known = facts k.who gs h.valid h.accepted
+
+    fresh : Accepts k.who gs (goes b)
+    fresh = record { built = refl; no_refusal = no_refusal; no_fault = refl }
+
+down_right : (form : PacketForm) (k : Kept) (es : List Event) (b : ℤ) → StandsFor form k es → (o : Option Refusal) → down_judged k.up b ≡ o → Right form k es (Down b) (down_taken k b o)
+down_right form k es b h (Some r) judged = refused_right form k es (Down b) r h refl (sym (down_judged_is k (accepted_events form k.who es) h b) ∙ judged)
+down_right form k es b h None judged = go_done form k es b h judged
+
+-- an assignment
+
+set_done : (form : PacketForm) (k : Kept) (es : List Event) (path prop : List ℕ) (value : Variant) → StandsFor form k es → set_judged k.who k.nodes path prop value ≡ None → Right form k es (Op (Set path prop value)) (set_taken k path prop value None)
+set_done form k es path prop value h free = done_right form k j es (Op (Set path prop value)) (done_with []) refl refl no_refusal refl
+    (sym (done_sends form k.who (does (Set path prop value)) gs [] (sends_set k.who gs path prop value h.valid h.accepted fresh) refl refl refl))
+    (record {
+      live = h.live;
+      valid = h.valid;
+      accepted = (fresh, h.accepted);
+      come = h.come;
+      up = h.up;
+      nodes = ap (assigned path prop value) h.nodes ∙ sym (tree_set k.who gs h.valid h.accepted known path prop value fresh);
+      next = h.next ∙ sym (next_set k.who gs path prop value);
+      rows = h.rows ∙ sym (ap (map (kept_row k.who)) (rows_set k.who gs path prop value));
+    })
+  where
+    gs : List Heard
+    gs = accepted_events form k.who es
+
+    j : Kept
+    j = record k { nodes = assigned path prop value k.nodes }
+
+    no_refusal : refusal_of k.who gs (does (Set path prop value)) ≡ None
+    no_refusal = sym (set_judged_is k gs h path prop value) ∙ free
+
+    known : Facts k.who gs
+    known = facts k.who gs h.valid h.accepted
+
+    fresh : Accepts k.who gs (does (Set path prop value))
+    fresh = record { built = refl; no_refusal = no_refusal; no_fault = refl }
+
+set_right : (form : PacketForm) (k : Kept) (es : List Event) (path prop : List ℕ) (value : Variant) → StandsFor form k es → (o : Option Refusal) → set_judged k.who k.nodes path prop value ≡ o → Right form k es (Op (Set path prop value)) (set_taken k path prop value o)
+set_right form k es path prop value h (Some r) judged = refused_right form k es (Op (Set path prop value)) r h refl (sym (set_judged_is k (accepted_events form k.who es) h path prop value) ∙ judged)
+set_right form k es path prop value h None judged = set_done form k es path prop value h judged
+
+-- a spawn
+
+spawn_done : (form : PacketForm) (k : Kept) (es : List Event) (o : SpawnOp) → StandsFor form k es → (is_some o.scene && is_none o.arg) ≡ true → spawn_judged k.who k.nodes k.rows k.next o ≡ None → Right form k es (Op (Spawn o)) (spawn_taken form k o None)
+spawn_done form k es o h built free = done_right form k (with_spawn k o) es (Op (Spawn o)) (done_with (shows_of form (with_spawn k o) (kept_row k.who (row_of_spawn k.who k.next o)))) refl refl no_refusal refl
+    (ap₂ (λ ns n. done_with (shows_among ns n k.up)) nodes_now h.next
+    ∙ ap (λ us. done_with (shows_among (tree_of k.who (does (Spawn o) ∷ gs)) (next_number k.who gs) us)) h.up
+    ∙ ap done_with (shown_where_open form k.who (tree_of k.who (does (Spawn o) ∷ gs)) (row_made k.who gs o) (and_parts (is_some o.scene) (is_none o.arg) built).1 (peers_up gs) (all_direct k.who gs h.accepted) (is_open k.who.scene (row_made k.who gs o).place))
+    ∙ sym (done_sends form k.who (does (Spawn o)) gs _ (sends_spawn k.who gs o h.valid h.accepted fresh) refl refl refl))
+    (record {
+      live = h.live;
+      valid = h.valid;
+      accepted = (fresh, h.accepted);
+      come = h.come;
+      up = h.up;
+      nodes = nodes_now;
+      next = ap (λ n. n + 1 + length (syncs_at k.who.scene (spawned_scene k.who o))) h.next ∙ sym (next_spawn k.who gs o);
+      rows = ap₂ (λ rs n. rs ++ kept_row k.who (row_of_spawn k.who n o) ∷ []) h.rows h.next
+          ∙ sym (ap (map (kept_row k.who)) (rows_spawn k.who gs o) ∙ map-append (kept_row k.who) (own_rows k.who gs) (row_made k.who gs o ∷ []));
+    })
+  where
+    gs : List Heard
+    gs = accepted_events form k.who es
+
+    shows_among : List Live → ℕ → List ℤ → List Out
+    shows_among ns n us = if is_open k.who.scene (row_of_spawn k.who n o).place then map (λ b. sent_to form b (row_packet k.who.scene ns (kept_row k.who (row_of_spawn k.who n o)))) us else []
+
+    no_refusal : refusal_of k.who gs (does (Spawn o)) ≡ None
+    no_refusal = sym (spawn_judged_is k gs h o) ∙ free
+
+    known : Facts k.who gs
+    known = facts k.who gs h.valid h.accepted
+
+    fresh : Accepts k.who gs (does (Spawn o))
+    fresh = record { built = built; no_refusal = no_refusal; no_fault = refl }
+
+    nodes_now : put_by row_before (spawned_live k.who (row_of_spawn k.who k.next o)) k.nodes ≡ tree_of k.who (does (Spawn o) ∷ gs)
+    nodes_now = ap₂ (λ n ns. put_by row_before (spawned_live k.who (row_of_spawn k.who n o)) ns) h.next h.nodes ∙ sym (tree_spawn k.who gs h.valid h.accepted known o fresh)
+
+spawn_right : (form : PacketForm) (k : Kept) (es : List Event) (o : SpawnOp) → StandsFor form k es → (is_some o.scene && is_none o.arg) ≡ true → (r : Option Refusal) → spawn_judged k.who k.nodes k.rows k.next o ≡ r → Right form k es (Op (Spawn o)) (spawn_taken form k o r)
+spawn_right form k es o h built (Some r) judged = refused_right form k es (Op (Spawn o)) r h refl (sym (spawn_judged_is k (accepted_events form k.who es) h o) ∙ judged)
+spawn_right form k es o h built None judged = spawn_done form k es o h built judged
+
+op_right : (form : PacketForm) (k : Kept) (es : List Event) (op : Operation) → StandsFor form k es → is_built_op op ≡ true → Right form k es (Op op) (op_taken form k op)
+op_right form k es (Spawn o) h built = spawn_right form k es o h built (spawn_judged k.who k.nodes k.rows k.next o) refl
+op_right form k es (Set path prop value) h built = set_right form k es path prop value h (set_judged k.who k.nodes path prop value) refl
+op_right form k es op h built = absurd (cc built)
+
+-- a received packet
+
+-- the message of a spawn
+abbrev spawn_message : SpawnMsg → Message
+spawn_message m = plain_packet (packet.Spawn m.scene m.spawner m.net m.syncs m.name m.arg m.values)
+
+-- a message that is read as a spawn is that spawn's
+read_is : (m : Message) (s : SpawnMsg) → spawn_read m ≡ Some s → m ≡ spawn_message s
+read_is (plain_packet (packet.Spawn scene spawner net syncs name arg values)) s h =
+    let r : SpawnMsg = record { scene = scene; spawner = spawner; net = net; syncs = syncs; name = name; arg = arg; values = values } in
+    ap spawn_message (ap (λ o. or_else o r) h)
+read_is m s h = absurd (cc h)
+
+unread_is : (m : Message) → spawn_read m ≡ None → is_built_message m ≡ false
+unread_is (plain_packet (packet.Spawn scene spawner net syncs name arg values)) h = absurd (cc h)
+unread_is m h = refl
+
+-- a packet of a link that is up, which is a spawn
+shown_done : (form : PacketForm) (k : Kept) (es : List Event) (from : ℤ) (class : Class) (bytes : List ℕ) (s : SpawnMsg) → StandsFor form k es → form.read_packet bytes ≡ Ok (spawn_message s)
+    → link_fault k.who (accepted_events form k.who es) from ≡ None → spawn_fault k.who (accepted_events form k.who es) from s (view k.who (accepted_events form k.who es) from).rows ≡ None
+    → Right form k es (Received from class bytes) (shown_taken k from s None)
+shown_done form k es from class bytes s h read linked free = done_right form k j es (Received from class bytes) (done_with [])
+    (ap (λ m. if is_unbuilt k.who gs (gets from class bytes m) then false else true) read ∙ given (is_none (link_fault k.who gs from)))
+    refl refl (ap (fault_of k.who gs) event ∙ no_fault)
+    (sym (done_sends form k.who (heard_of form (Received from class bytes)) gs []
+    (ap (λ e. sends k.who e gs) event ∙ sends_receive k.who gs from class bytes (Ok (spawn_message s)) h.valid h.accepted fresh)
+    (ap (λ e. runs k.who e gs) event) (ap (raws k.who) event) (ap (λ e. skips k.who e gs) event)))
+    (record {
+      live = h.live;
+      valid = h.valid;
+      accepted = (subst (Accepts k.who gs) (sym event) fresh, h.accepted);
+      come = h.come ∙ ap (λ e. reverse (peers_come (e ∷ gs))) (sym event);
+      up = h.up ∙ ap (λ e. peers_up (e ∷ gs)) (sym event);
+      nodes = ap (put_by row_before (shown_node k.who.scene from s)) h.nodes ∙ sym (tree_receive k.who gs h.valid h.accepted known from class bytes s fresh) ∙ ap (λ e. tree_of k.who (e ∷ gs)) (sym event);
+      next = h.next ∙ sym (next_receive k.who gs from class bytes (form.read_packet bytes));
+      rows = h.rows ∙ sym (ap (map (kept_row k.who)) (rows_receive k.who gs from class bytes (form.read_packet bytes)));
+    })
+  where
+    gs : List Heard
+    gs = accepted_events form k.who es
+
+    j : Kept
+    j = record k { nodes = put_by row_before (shown_node k.who.scene from s) k.nodes }
+
+    given : (c : Bool) → (if c && false then false else true) ≡ true
+    given true = refl
+    given false = refl
+
+    event : gets from class bytes (form.read_packet bytes) ≡ shown_by from class bytes s
+    event = ap (gets from class bytes) read
+
+    no_fault : fault_of k.who gs (shown_by from class bytes s) ≡ None
+    no_fault = ap₂ first_some linked free
+
+    known : Facts k.who gs
+    known = facts k.who gs h.valid h.accepted
+
+    fresh : Accepts k.who gs (shown_by from class bytes s)
+    fresh = record { built = refl; no_refusal = refl; no_fault = no_fault }
+
+-- whether the link's peer is up, where a packet is taken from it
+linked_up : (who : Who) (es : List Heard) (from : ℤ) → link_fault who es from ≡ None → is_up es from ≡ true
+linked_up who es from linked =
+    let free = no_answer (not (is_up es from) || (not (is_server who) && not (int_eq from server))) (fault_why.UnknownPeer from) linked in
+    not_false (is_up es from) (or_parts (not (is_up es from)) (not (is_server who) && not (int_eq from server)) free).0
+
+-- why a spawn that was received over a link that is up is a fault
+shown_judged_here : (k : Kept) (es : List Heard) → HasParts k es → (from : ℤ) (s : SpawnMsg) → link_fault k.who es from ≡ None → shown_judged k.who k.nodes from s ≡ spawn_fault k.who es from s (view k.who es from).rows
+shown_judged_here k es h from s linked =
+    let known = facts k.who es h.valid h.accepted in
+    let up = linked_up k.who es from linked in
+    shown_judged_is k es h from s (view_rows_under k.who es h.valid h.accepted known from up (not_this k.who es known from up))
+
+-- a packet that is read is answered unless it is of a kind that isn't built
+given_by : (form : PacketForm) (who : Who) (es : List Event) (from : ℤ) (class : Class) (bytes : List ℕ) (m : Message) (f : Option FaultOf) (b : Bool) → form.read_packet bytes ≡ Ok m → link_fault who (accepted_events form who es) from ≡ f → is_built_message m ≡ b
+    → is_answered form who es (Received from class bytes) ≡ (if is_none f && not b then false else true)
+given_by form who es from class bytes m f b read linked built =
+    ap (λ r. if is_unbuilt who (accepted_events form who es) (gets from class bytes r) then false else true) read
+    ∙ ap₂ (λ g c. if is_none g && not c then false else true) linked built
+
+-- a packet that is read as a spawn, from a link that is up
+shown_right : (form : PacketForm) (k : Kept) (es : List Event) (from : ℤ) (class : Class) (bytes : List ℕ) (s : SpawnMsg) → StandsFor form k es → form.read_packet bytes ≡ Ok (spawn_message s)
+    → link_fault k.who (accepted_events form k.who es) from ≡ None → (o : Option FaultOf) → shown_judged k.who k.nodes from s ≡ o → Right form k es (Received from class bytes) (shown_taken k from s o)
+shown_right form k es from class bytes s h read linked (Some f) judged =
+    let gs = accepted_events form k.who es in
+    fault_right form k es (Received from class bytes) f h (given_by form k.who es from class bytes (spawn_message s) None true read linked refl) refl
+    (ap (λ r. fault_of k.who gs (gets from class bytes r)) read ∙ ap₂ first_some linked (sym (shown_judged_here k gs h from s linked) ∙ judged))
+shown_right form k es from class bytes s h read linked None judged =
+    shown_done form k es from class bytes s h read linked (sym (shown_judged_here k (accepted_events form k.who es) h from s linked) ∙ judged)
+
+-- a packet from a link that is up, by the spawn that it is read as
+message_right : (form : PacketForm) (k : Kept) (es : List Event) (from : ℤ) (class : Class) (bytes : List ℕ) (m : Message) → StandsFor form k es → form.read_packet bytes ≡ Ok m
+    → link_fault k.who (accepted_events form k.who es) from ≡ None → (s : Option SpawnMsg) → spawn_read m ≡ s → Right form k es (Received from class bytes) (message_taken k from s)
+message_right form k es from class bytes m h read linked None is = unbuilt_right form k es (Received from class bytes) (given_by form k.who es from class bytes m None false read linked (unread_is m is))
+message_right form k es from class bytes m h read linked (Some s) is = shown_right form k es from class bytes s h (read ∙ ap Ok (read_is m s is)) linked (shown_judged k.who k.nodes from s) refl
+
+-- a packet that is read, by whether its link is up
+linked_right : (form : PacketForm) (k : Kept) (es : List Event) (from : ℤ) (class : Class) (bytes : List ℕ) (m : Message) → StandsFor form k es → form.read_packet bytes ≡ Ok m
+    → (o : Option FaultOf) → link_judged k.who k.up from ≡ o → Right form k es (Received from class bytes) (linked_taken k from m o)
+linked_right form k es from class bytes m h read (Some f) judged =
+    let gs = accepted_events form k.who es in
+    let linked : link_fault k.who gs from ≡ Some f = sym (link_judged_is k gs h from) ∙ judged in
+    fault_right form k es (Received from class bytes) f h (given_by form k.who es from class bytes m (Some f) (is_built_message m) read linked refl) refl
+    (ap (λ r. fault_of k.who gs (gets from class bytes r)) read ∙ ap (λ g. first_some g (message_fault k.who gs from m)) linked)
+linked_right form k es from class bytes m h read None judged =
+    message_right form k es from class bytes m h read (sym (link_judged_is k (accepted_events form k.who es) h from) ∙ judged) (spawn_read m) refl
+
+-- a received packet, by what it reads as
+read_right : (form : PacketForm) (k : Kept) (es : List Event) (from : ℤ) (class : Class) (bytes : List ℕ) → StandsFor form k es → (r : Result Message Bad) → form.read_packet bytes ≡ r → Right form k es (Received from class bytes) (read_taken k from r)
+read_right form k es from class bytes h (Err bad) read =
+    let gs = accepted_events form k.who es in
+    fault_right form k es (Received from class bytes) (fault_why.Malformed bad.at bad.why) h (ap (λ r. if is_unbuilt k.who gs (gets from class bytes r) then false else true) read) refl (ap (λ r. fault_of k.who gs (gets from class bytes r)) read)
+read_right form k es from class bytes h (Ok m) read = linked_right form k es from class bytes m h read (link_judged k.who k.up from) refl
+
+-- any event that is built
+pub taken_right : (form : PacketForm) (k : Kept) (es : List Event) (e : Event) → StandsFor form k es → is_built_event e ≡ true → Right form k es e (taken form k e)
+taken_right form k es (Up b) h built = up_right form k es b h (up_judged k.who k.come k.up b) refl
+taken_right form k es (Down b) h built = down_right form k es b h (down_judged k.up b) refl
+taken_right form k es (Op op) h built = op_right form k es op h built
+taken_right form k es (Received from class bytes) h built = read_right form k es from class bytes h (form.read_packet bytes) refl
+
+-- an event that isn't done leaves what is kept
+
+up_still : (form : PacketForm) (k : Kept) (b : ℤ) (o : Option Refusal) → is_done (up_taken form k b o).outcome ≡ false → (up_taken form k b o).kept ≡ k
+up_still form k b (Some r) h = refl
+up_still form k b None h = absurd (true≢false h)
+
+down_still : (k : Kept) (b : ℤ) (o : Option Refusal) → is_done (down_taken k b o).outcome ≡ false → (down_taken k b o).kept ≡ k
+down_still k b (Some r) h = refl
+down_still k b None h = absurd (true≢false h)
+
+spawn_still : (form : PacketForm) (k : Kept) (o : SpawnOp) (r : Option Refusal) → is_done (spawn_taken form k o r).outcome ≡ false → (spawn_taken form k o r).kept ≡ k
+spawn_still form k o (Some r) h = refl
+spawn_still form k o None h = absurd (true≢false h)
+
+set_still : (k : Kept) (path prop : List ℕ) (value : Variant) (r : Option Refusal) → is_done (set_taken k path prop value r).outcome ≡ false → (set_taken k path prop value r).kept ≡ k
+set_still k path prop value (Some r) h = refl
+set_still k path prop value None h = absurd (true≢false h)
+
+op_still : (form : PacketForm) (k : Kept) (op : Operation) → is_done (op_taken form k op).outcome ≡ false → (op_taken form k op).kept ≡ k
+op_still form k (Spawn o) h = spawn_still form k o (spawn_judged k.who k.nodes k.rows k.next o) h
+op_still form k (Set path prop value) h = set_still k path prop value (set_judged k.who k.nodes path prop value) h
+op_still form k op h = refl
+
+shown_still : (k : Kept) (from : ℤ) (s : SpawnMsg) (o : Option FaultOf) → is_done (shown_taken k from s o).outcome ≡ false → (shown_taken k from s o).kept ≡ k
+shown_still k from s (Some f) h = refl
+shown_still k from s None h = absurd (true≢false h)
+
+message_still : (k : Kept) (from : ℤ) (s : Option SpawnMsg) → is_done (message_taken k from s).outcome ≡ false → (message_taken k from s).kept ≡ k
+message_still k from None h = refl
+message_still k from (Some s) h = shown_still k from s (shown_judged k.who k.nodes from s) h
+
+linked_still : (k : Kept) (from : ℤ) (m : Message) (o : Option FaultOf) → is_done (linked_taken k from m o).outcome ≡ false → (linked_taken k from m o).kept ≡ k
+linked_still k from m (Some f) h = refl
+linked_still k from m None h = message_still k from (spawn_read m) h
+
+read_still : (k : Kept) (from : ℤ) (r : Result Message Bad) → is_done (read_taken k from r).outcome ≡ false → (read_taken k from r).kept ≡ k
+read_still k from (Err bad) h = refl
+read_still k from (Ok m) h = linked_still k from m (link_judged k.who k.up from) h
+
+pub kept_still : (form : PacketForm) (k : Kept) (e : Event) → is_done (taken form k e).outcome ≡ false → (taken form k e).kept ≡ k
+kept_still form k (Up b) h = up_still form k b (up_judged k.who k.come k.up b) h
+kept_still form k (Down b) h = down_still k b (down_judged k.up b) h
+kept_still form k (Op op) h = op_still form k op h
+kept_still form k (Received from class bytes) h = read_still k from (form.read_packet bytes) h

@@ -1,4 +1,10 @@
-pub mod FirstPath
-pub mod Histories
+pub mod Kept
+pub mod Judged
 pub mod Steps
-pub mod Built
+pub mod Stands
+pub mod Links
+pub mod Calls
+pub mod Rights
+pub mod Sites
+pub mod Parts
+pub mod Arrivals

@@ -1,37 +1,44 @@
--- What a peer of the first path answers to an event, and what it keeps then.
-use Rattle.std.specs.Prelude.{◌≡◌, ℕ, ◌+◌, ℤ, pos, Bool, true, false, not, ◌&&◌, ◌||◌, List, [], ◌∷◌, ◌++◌, map, length, Option, Some, None, option_and_then, nat_eq, nat_le, nat_lt, int_lt, if◌then◌else◌}
-use Rattle.std.specs.List.{list_any}
+-- What a peer answers to an event, and what it keeps then.
+use Rattle.std.specs.Prelude.{◌≡◌, ℕ, ◌+◌, ℤ, Bool, true, false, not, List, [], ◌∷◌, ◌++◌, map, filter, length, Option, Some, None, Result, Ok, Err, int_lt, if◌then◌else◌}
 use Rattle.std.specs.Ordering.{int_eq}
-use Rattle.gd_variant.specs.Words.{has_int, put_by, when, first_of}
+use Rattle.gd_variant.specs.Words.{put_by, or_else}
+use Rattle.gd_variant.specs.declared.value.Variant.{Variant}
+use Rattle.gd_variant.specs.declared.message.Plain.{Plain}
+use Rattle.gd_variant.specs.declared.message.Plain.TheVariants as packet
+use Rattle.gd_variant.specs.declared.message.Message.{Message}
 use Rattle.gd_variant.specs.declared.message.Message.TheVariants.{Plain as plain_packet}
+use Rattle.gd_variant.specs.declared.message.Bad.{Bad}
+use Rattle.scene_model.specs.declared.scene.Scene.{Scene}
+use Rattle.scene_model.specs.declared.spawn.SpawnMsg.{SpawnMsg}
+use Rattle.scene_model.specs.declared.event.SpawnOp.{SpawnOp}
 use Rattle.scene_model.specs.declared.event.Event.{Event}
 use Rattle.scene_model.specs.declared.event.Event.TheVariants.{Op, Up, Down, Received}
 use Rattle.scene_model.specs.declared.event.Op.{Op as Operation}
-use Rattle.scene_model.specs.declared.event.Op.TheVariants.{Spawn}
-use Rattle.scene_model.specs.declared.event.Class.{Class}
+use Rattle.scene_model.specs.declared.event.Op.TheVariants.{Spawn, Set}
 use Rattle.scene_model.specs.declared.event.Class.TheVariants.{Reliable}
 use Rattle.scene_model.specs.declared.outcome.Outcome.{Outcome}
 use Rattle.scene_model.specs.declared.outcome.Outcome.TheVariants.{Done, Refused, Fault}
 use Rattle.scene_model.specs.declared.outcome.Out.{Out}
 use Rattle.scene_model.specs.declared.outcome.Refusal.{Refusal}
-use Rattle.scene_model.specs.declared.outcome.Refusal.TheVariants.{BadName, NameTaken, NodesFull, BadPeer, PeersFull, NotBuilt}
+use Rattle.scene_model.specs.declared.outcome.Refusal.TheVariants.{NotBuilt}
+use Rattle.scene_model.specs.declared.outcome.Fault.{Fault as FaultOf}
 use Rattle.scene_model.specs.declared.outcome.Fault.TheVariants as fault
-use Rattle.scene_model.specs.Paths.{is_name}
+use Rattle.scene_model.specs.Lookup.{fixed_path_id}
 use Rattle.packet_codec.specs.Packets.{read_packet}
 use Rattle.packet_codec.specs.Written.{written_packet}
-use Rattle.peer_model.specs.Heard.{server}
+use Rattle.peer_model.specs.Heard.{Who}
+use Rattle.peer_model.specs.Rows.{OwnRow, syncs_at, spawned_path, spawned_scene, count_from}
+use Rattle.peer_model.specs.Updates.{Live, shown_node, all_spawn_props}
 use Rattle.peer_model.specs.Bytes.{PacketForm}
+use Rattle.headless_tree.specs.Nodes.{row_before, assigned, without_rows}
+use Rattle.peer_laws.specs.Shown.{is_open, values_in, spawned_live}
 use Rattle.peer_core.specs.declared.rows.SpawnedRow.{SpawnedRow}
-use Rattle.peer_core.specs.FirstPath.{spawn_in, row_packet, row_read, is_reliable, is_right, IsTyped}
-use Rattle.peer_core.specs.Histories.{Kept, has_name, is_full, next_row, row_before}
+use Rattle.peer_core.specs.Kept.{Kept, kept_row}
+use Rattle.peer_core.specs.Judged.{up_judged, down_judged, spawn_judged, set_judged, link_judged, shown_judged}
 
--- what an accepted event does: packets alone
-abbrev pub done_with : List Out → Outcome
-done_with packets = Done (record { packets = packets; runs = []; raws = []; skips = [] })
-
--- the packet that shows a row to a peer
-abbrev pub show_to : PacketForm → ℤ → SpawnedRow → Out
-show_to form b r = record { link = b; to = b; class = Reliable; tick = None; bytes = form.written_packet (plain_packet (row_packet r)) }
+-- how the packets of this project are read and written
+abbrev pub packet_form : PacketForm
+packet_form = record { read_packet = read_packet; written_packet = written_packet }
 
 -- an outcome, with what is kept then
 pub record Taken : Type 0 where
@@ -42,104 +49,143 @@ pub record Taken : Type 0 where
 abbrev pub unchanged : Kept → Outcome → Taken
 unchanged k o = record { outcome = o; kept = k }
 
--- a link of this peer, of one that was up before, or with a number that can't be
-abbrev pub is_bad_link : ℤ → List ℤ → ℤ → Bool
-is_bad_link id up b = int_eq b id || has_int b up || (if int_eq id server then int_lt b (pos 2) else not (int_eq b server))
+-- what an accepted event does: packets alone
+abbrev pub done_with : List Out → Outcome
+done_with packets = Done (record { packets = packets; runs = []; raws = []; skips = [] })
 
--- why a link is refused
-abbrev pub link_judged : ℤ → List ℤ → ℤ → Option Refusal
-link_judged id up b = first_of (when (is_bad_link id up b) BadPeer ∷ when (int_eq id server && nat_le 64 (length up)) PeersFull ∷ [])
+-- the packet that shows a row, with the values that stand in these nodes
+abbrev pub row_packet : Scene → List Live → SpawnedRow → Plain
+row_packet s nodes r = packet.Spawn r.byte (or_else (fixed_path_id s r.spawner) 0) r.num r.ids r.name None (values_in nodes r.path (all_spawn_props (syncs_at s (Some r.place))))
 
--- the server shows all its rows to a new peer
-abbrev pub shows_to : PacketForm → ℤ → List SpawnedRow → ℤ → List Out
-shows_to form id rows b = if int_eq id server then map (show_to form b) rows else []
+-- a packet to a peer on its own link
+abbrev pub sent_to : PacketForm → ℤ → Plain → Out
+sent_to form b p = record { link = b; to = b; class = Reliable; tick = None; bytes = form.written_packet (plain_packet p) }
+
+-- the rows that are shown to others
+abbrev pub open_rows : Scene → List SpawnedRow → List SpawnedRow
+open_rows s rows = filter (λ (r : SpawnedRow). is_open s r.place) rows
+
+-- the packets that show all rows to a new peer
+abbrev pub shows_to : PacketForm → Kept → ℤ → List Out
+shows_to form k b = map (λ r. sent_to form b (row_packet k.who.scene k.nodes r)) (open_rows k.who.scene k.rows)
 
 -- a link that came up
-abbrev pub link_taken : PacketForm → Kept → ℤ → Option Refusal → Taken
-link_taken form k b (Some r) = unchanged k (Refused r)
-link_taken form k b None = record { outcome = done_with (shows_to form k.id k.rows b); kept = record k { up = put_by int_lt b k.up } }
+abbrev pub up_taken : PacketForm → Kept → ℤ → Option Refusal → Taken
+up_taken form k b (Some r) = unchanged k (Refused r)
+up_taken form k b None = record { outcome = done_with (shows_to form k b); kept = record k { come = k.come ++ b ∷ []; up = put_by int_lt b k.up } }
 
--- why a spawn is refused
-abbrev pub spawn_judged : List ℕ → List SpawnedRow → Option Refusal
-spawn_judged name rows = first_of (when (not (is_name name)) BadName ∷ when (has_name name rows) NameTaken ∷ when (is_full rows) NodesFull ∷ [])
+-- a link that went down: the rows of its peer are gone
+abbrev pub down_taken : Kept → ℤ → Option Refusal → Taken
+down_taken k b (Some r) = unchanged k (Refused r)
+down_taken k b None = record { outcome = done_with []; kept = record k { up = filter (λ c. not (int_eq c b)) k.up; nodes = without_rows b k.nodes } }
 
--- a spawn of the first path at the server
-abbrev pub spawn_taken : PacketForm → Kept → List ℕ → ℤ → Option Refusal → Taken
-spawn_taken form k name value (Some r) = unchanged k (Refused r)
-spawn_taken form k name value None = record {
-  outcome = done_with (map (λ b. show_to form b (next_row k.rows name value)) k.up);
-  kept = record k { rows = k.rows ++ next_row k.rows name value ∷ [] };
+-- the row that a spawn makes
+abbrev pub row_of_spawn : Who → ℕ → SpawnOp → OwnRow
+row_of_spawn who next o = record {
+  num = next;
+  ids = count_from (next + 1) (syncs_at who.scene (spawned_scene who o));
+  path = spawned_path who o;
+  place = or_else (spawned_scene who o) 0;
+  made_by = o;
 }
 
--- an operation, by the spawn that it is
-abbrev pub found_taken : PacketForm → Kept → Option (List ℕ × ℤ) → Taken
-found_taken form k None = unchanged k (Refused NotBuilt)
-found_taken form k (Some s) = spawn_taken form k s.0 s.1 (spawn_judged s.0 k.rows)
+-- what is kept after a spawn
+abbrev pub with_spawn : Kept → SpawnOp → Kept
+with_spawn k o = record k {
+  nodes = put_by row_before (spawned_live k.who (row_of_spawn k.who k.next o)) k.nodes;
+  next = k.next + 1 + length (syncs_at k.who.scene (spawned_scene k.who o));
+  rows = k.rows ++ kept_row k.who (row_of_spawn k.who k.next o) ∷ [];
+}
 
--- the spawn of an operation, where it is one of the first path at the server
-abbrev pub spawn_found : ℤ → Operation → Option (List ℕ × ℤ)
-spawn_found id (Spawn o) = if int_eq id server then spawn_in o else None
-spawn_found id op = None
+-- a row's packet for each peer that is up, where the row is shown
+abbrev pub shows_of : PacketForm → Kept → SpawnedRow → List Out
+shows_of form k r = if is_open k.who.scene r.place then map (λ b. sent_to form b (row_packet k.who.scene k.nodes r)) k.up else []
 
--- whether a number is a row's or its synchronizer's
-abbrev pub knows : ℕ → List SpawnedRow → Bool
-knows num rows = list_any (λ (r : SpawnedRow). nat_eq num r.num || nat_eq num (r.num + 1)) rows
+-- a spawn
+abbrev pub spawn_taken : PacketForm → Kept → SpawnOp → Option Refusal → Taken
+spawn_taken form k o (Some r) = unchanged k (Refused r)
+spawn_taken form k o None = record { outcome = done_with (shows_of form (with_spawn k o) (kept_row k.who (row_of_spawn k.who k.next o))); kept = with_spawn k o }
 
--- whether a row may appear: its numbers are right and new, its name is right and free, and there is room
-abbrev pub may_appear : List SpawnedRow → SpawnedRow → Bool
-may_appear rows r =
-    (nat_lt 0 r.num && nat_lt r.num 2147483647) && (not (knows r.num rows || knows (r.num + 1) rows) && (is_name r.name && (not (has_name r.name rows) && not (is_full rows))))
+-- an assignment
+abbrev pub set_taken : Kept → List ℕ → List ℕ → Variant → Option Refusal → Taken
+set_taken k path prop value (Some r) = unchanged k (Refused r)
+set_taken k path prop value None = record { outcome = done_with []; kept = record k { nodes = assigned path prop value k.nodes } }
 
--- whether a packet comes from the server's link, reliably, at a client
-abbrev pub comes_right : ℤ → List ℤ → ℤ → Class → Bool
-comes_right id up from class = int_eq from server && (has_int server up && (not (int_eq id server) && is_reliable class))
+-- an operation; the others aren't built
+abbrev pub op_taken : PacketForm → Kept → Operation → Taken
+op_taken form k (Spawn o) = spawn_taken form k o (spawn_judged k.who k.nodes k.rows k.next o)
+op_taken form k (Set path prop value) = set_taken k path prop value (set_judged k.who k.nodes path prop value)
+op_taken form k op = unchanged k (Refused NotBuilt)
 
--- a row, where it may appear
-abbrev pub kept_if : List SpawnedRow → SpawnedRow → Option SpawnedRow
-kept_if rows r = if may_appear rows r then Some r else None
+-- a spawn that was received
+abbrev pub shown_taken : Kept → ℤ → SpawnMsg → Option FaultOf → Taken
+shown_taken k c m (Some f) = unchanged k (Fault f)
+shown_taken k c m None = record { outcome = done_with []; kept = record k { nodes = put_by row_before (shown_node k.who.scene c m) k.nodes } }
 
--- the row that a received packet brings
-abbrev pub row_found : PacketForm → Kept → ℤ → Class → List ℕ → Option SpawnedRow
-row_found form k from class bytes = if comes_right k.id k.up from class then option_and_then (kept_if k.rows) (row_read (form.read_packet bytes)) else None
+-- the spawn that a message is
+abbrev pub spawn_read : Message → Option SpawnMsg
+spawn_read (plain_packet (packet.Spawn scene spawner net syncs name arg values)) = Some (record { scene = scene; spawner = spawner; net = net; syncs = syncs; name = name; arg = arg; values = values })
+spawn_read m = None
 
--- a received packet, by the row that it brings
-abbrev pub row_taken : Kept → Option SpawnedRow → Taken
-row_taken k None = unchanged k (Fault fault.NotBuilt)
-row_taken k (Some r) = record { outcome = done_with []; kept = record k { rows = put_by row_before r k.rows } }
+-- a message from a link that is up
+abbrev pub message_taken : Kept → ℤ → Option SpawnMsg → Taken
+message_taken k from None = unchanged k (Fault fault.NotBuilt)
+message_taken k from (Some m) = shown_taken k from m (shown_judged k.who k.nodes from m)
+
+-- a message, by whether its link is up
+abbrev pub linked_taken : Kept → ℤ → Message → Option FaultOf → Taken
+linked_taken k from m (Some f) = unchanged k (Fault f)
+linked_taken k from m None = message_taken k from (spawn_read m)
+
+-- a received packet, by what it reads as
+abbrev pub read_taken : Kept → ℤ → Result Message Bad → Taken
+read_taken k from (Err bad) = unchanged k (Fault (fault.Malformed bad.at bad.why))
+read_taken k from (Ok m) = linked_taken k from m (link_judged k.who k.up from)
 
 -- any event
 abbrev pub taken : PacketForm → Kept → Event → Taken
-taken form k (Up b) = link_taken form k b (link_judged k.id k.up b)
-taken form k (Op op) = found_taken form k (spawn_found k.id op)
-taken form k (Received from class bytes) = row_taken k (row_found form k from class bytes)
-taken form k (Down b) = unchanged k (Refused NotBuilt)
+taken form k (Up b) = up_taken form k b (up_judged k.who k.come k.up b)
+taken form k (Down b) = down_taken k b (down_judged k.up b)
+taken form k (Op op) = op_taken form k op
+taken form k (Received from class bytes) = read_taken k from (form.read_packet bytes)
 
--- what types say of the spawn of an operation, and of the row of a packet
-abbrev pub IsTypedSpawn : Option (List ℕ × ℤ) → Type 0
-IsTypedSpawn None = Unit {0}
-IsTypedSpawn (Some s) = IsTyped s.0 s.1
+-- the packets that an event is answered with, each once, whoever gets it
 
--- the same of a row
-abbrev pub IsTypedRow : Option SpawnedRow → Type 0
-IsTypedRow None = Unit {0}
-IsTypedRow (Some r) = IsTyped r.name r.value
+-- a link that comes up gets the packets of all rows that are shown
+abbrev pub up_plains : Kept → Option Refusal → List Plain
+up_plains k (Some r) = []
+up_plains k None = map (row_packet k.who.scene k.nodes) (open_rows k.who.scene k.rows)
 
--- what types say of an event
-abbrev pub IsTypedEvent : PacketForm → Kept → Event → Type 0
-IsTypedEvent form k (Op op) = IsTypedSpawn (spawn_found k.id op)
-IsTypedEvent form k (Received from class bytes) = IsTypedRow (row_found form k from class bytes)
-IsTypedEvent form k e = Unit {0}
+-- the packet of a row, where it is shown
+abbrev pub plains_of : Kept → SpawnedRow → List Plain
+plains_of k r = if is_open k.who.scene r.place then row_packet k.who.scene k.nodes r ∷ [] else []
 
--- how the packets of this project are read and written
-abbrev pub packet_form : PacketForm
-packet_form = record { read_packet = read_packet; written_packet = written_packet }
+-- a spawn that is done sends its row's packet
+abbrev pub spawn_plains : Kept → SpawnOp → Option Refusal → List Plain
+spawn_plains k o (Some r) = []
+spawn_plains k o None = plains_of (with_spawn k o) (kept_row k.who (row_of_spawn k.who k.next o))
+
+-- an operation
+abbrev pub op_plains : Kept → Operation → List Plain
+op_plains k (Spawn o) = spawn_plains k o (spawn_judged k.who k.nodes k.rows k.next o)
+op_plains k op = []
+
+-- any event
+abbrev pub plains_taken : Kept → Event → List Plain
+plains_taken k (Up b) = up_plains k (up_judged k.who k.come k.up b)
+plains_taken k (Op op) = op_plains k op
+plains_taken k e = []
+
+-- what is written for a packet is read as that packet
+abbrev pub IsReadablePlain : PacketForm → Plain → Type 0
+IsReadablePlain form p = form.read_packet (form.written_packet (plain_packet p)) ≡ Ok (plain_packet p)
+
+-- so with each of them
+abbrev pub AllReadablePlains : PacketForm → List Plain → Type 0
+AllReadablePlains form [] = Unit {0}
+AllReadablePlains form (p ∷ ps) = IsReadablePlain form p × AllReadablePlains form ps
 
 -- whether an outcome is done
 abbrev pub is_done : Outcome → Bool
 is_done (Done effects) = true
 is_done o = false
-
--- a row that was found can be written
-abbrev pub IsRightRow : Option SpawnedRow → Type 0
-IsRightRow None = Unit {0}
-IsRightRow (Some r) = is_right r ≡ true

@@ -1,16 +1,24 @@
 //! One peer: what it holds, what it answers to each event, and what it sends.
 //!
-//! The first path is built: links that come up, spawns of one scene with one Int, and the packets that show them.
+//! Built so far are links, spawns by scene, assignments to properties, and received spawns, over any valid scene.
 #![tactic(auto)]
 
 mod links;
+mod lookup;
+mod making;
 mod peer;
+mod receiving;
 mod reporting;
 mod rows;
 mod sending;
+mod setting;
 mod shown;
 mod spawning;
+mod taking;
+#[cfg(test)]
+mod tests;
 mod texts;
+mod values;
 
 pub use peer::{Peer, Stop};
 pub use rows::SpawnedRow;

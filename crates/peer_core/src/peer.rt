@@ -1,25 +1,28 @@
 //! A peer, which takes one event after the other.
-ghost use Rattle.std.specs.Prelude.{◌≡◌, ◌∷◌, ◌+◌, [], List, ℤ, pos, true, false, ◌↔◌, ◌≤ℤ◌, IfOk, OnOk, OnErr, Err, length, option_and_then};
+ghost use Rattle.std.specs.Prelude.{◌≡◌, ◌∷◌, [], List, ℕ, ℤ, pos, true, false, ◌↔◌, ◌≤ℤ◌, IfOk, OnOk, OnErr, Err, map};
 ghost use Rattle.std.specs.List.{list_all};
 ghost use Rattle.scene_model.specs.declared.event.Event.{Event as EventOf};
-ghost use Rattle.scene_model.specs.declared.event.Event.TheVariants.{Op as operation, Up as came_up, Received as arrived};
-ghost use Rattle.packet_codec.specs.Packets.{read_packet};
-ghost use Rattle.peer_model.specs.View.{report_of};
+ghost use Rattle.scene_model.specs.declared.event.Event.TheVariants.{Op as operation};
+ghost use Rattle.scene_model.specs.Valid.{IsValidScene};
+ghost use Rattle.peer_model.specs.View.{report_of, row_of};
 ghost use Rattle.peer_model.specs.Bytes.{accepted_events};
+ghost use Rattle.headless_tree.specs.Nodes.{fixed_nodes};
+ghost use Rattle.peer_laws.specs.Built.{is_built_op};
 ghost use Rattle.peer_core.specs.declared.peer.Stop.TheVariants as stop;
-ghost use Rattle.peer_core.specs.FirstPath.{IsTyped, is_reliable as is_reliable_of, is_right, path_peer, row_read};
-ghost use Rattle.peer_core.specs.Steps.{IsRightRow, IsTypedEvent, IsTypedRow, IsTypedSpawn, comes_right, done_with, is_done, kept_if, packet_form, row_found, spawn_found, spawn_judged, spawn_taken, taken};
+ghost use Rattle.peer_core.specs.Rights.{AreRight, has_right_values, is_before, is_sound_op, is_sound_event};
+ghost use Rattle.peer_core.specs.Parts.{kept_of};
+ghost use Rattle.peer_core.specs.Stands.{StandsFor, is_built_event, is_answered, built_answer};
+ghost use Rattle.peer_core.specs.Steps.{packet_form, taken, is_done};
 
-use crate::links::{SERVER, is_up, judge_link, put_peer};
+use crate::links::Link;
+use crate::receiving::take_packet;
 use crate::reporting::report_with;
-use crate::rows::{SpawnedRow, is_welcome, put_row};
-use crate::sending::{show_all, show_to_each};
-use crate::shown::row_of;
-use crate::spawning::{judge_spawn, make_row, spawn_of};
-use gd_variant::{Message, OutOfMemory, Text};
-use packet_codec::{CodecStop, decode_packet};
-use scene_model::{Class, Effects, Event, Fault, Op, OutList, Outcome, Refusal, Report};
-use sqlite_items::Items;
+use crate::rows::SpawnedRow;
+use crate::taking::{take_down, take_set, take_spawn, take_up};
+use gd_variant::OutOfMemory;
+use headless_tree::Tree;
+use indexmap::IndexSet;
+use scene_model::{Event, Op, Outcome, Refusal, Report, Scene};
 use std::alloc::Global;
 use std::marker::Model;
 
@@ -32,177 +35,67 @@ pub enum Stop {
     Spent,
 }
 
-/// What an accepted event does: packets, and nothing else.
-fn done(alloc: Global, packets: OutList) -> Outcome
-    ensures { result ≡ done_with packets }
-{
-    Outcome::Done(Effects {
-        packets,
-        runs: Items::new(alloc),
-        raws: Items::new(alloc),
-        skips: Items::new(alloc),
-    })
-}
-
-/// A link came up.
-fn take_link(
-    alloc: Global,
-    id: i32,
-    up: &mut Vec<i32>,
-    rows: &[SpawnedRow],
-    peer: i32,
-) -> Result<Outcome, OutOfMemory>
-    requires { list_all is_right rows.now ≡ true }
-    ensures { IfOk result (λ o. record { outcome = o; kept = record { id = id; spent = false; up = up.new.items; rows = rows.now } } ≡ taken packet_form (record { id = id; spent = false; up = up.old.items; rows = rows.now }) (came_up peer)) }
-{
-    match judge_link(id, up, peer) {
-        Some(refusal) => Ok(Outcome::Refused(refusal)),
-        None => {
-            let packets = show_all(alloc, id, rows, peer)?;
-            put_peer(up, peer)?;
-            Ok(done(alloc, packets))
-        }
-    }
-}
-
-/// The spawn of an operation, where it is one of the first path at the server.
-fn spawn_in(id: i32, op: Op) -> Option<(Text, i64)>
-    ensures spawn { result ≡ spawn_found id op }
-    ensures typed { IsTypedSpawn result }
-{
-    match op {
-        Op::Spawn(spawn) => { if id == SERVER { spawn_of(spawn) } else { None } }
-        _ => None,
-    }
-}
-
-/// A spawn at the server.
-fn take_spawn(
-    alloc: Global,
-    up: &[i32],
-    rows: &mut Vec<SpawnedRow>,
-    spawn: (Text, i64),
-) -> Result<Outcome, OutOfMemory>
-    requires right { list_all is_right rows.old.items ≡ true }
-    requires typed { IsTyped spawn.0 spawn.1 }
-    ensures taken { (id : ℤ) → IfOk result (λ o. record { outcome = o; kept = record { id = id; spent = false; up = up.now; rows = rows.new.items } } ≡ spawn_taken packet_form (record { id = id; spent = false; up = up.now; rows = rows.old.items }) spawn.0 spawn.1 (spawn_judged spawn.0 rows.old.items)) }
-    ensures right { list_all is_right rows.new.items ≡ true }
-{
-    match judge_spawn(&spawn.0, rows) {
-        Some(refusal) => Ok(Outcome::Refused(refusal)),
-        None => {
-            let row = make_row(rows, spawn);
-            let packets = show_to_each(alloc, up, &row)?;
-            rows.push(row)?;
-            Ok(done(alloc, packets))
-        }
-    }
-}
-
-/// An operation.
+/// An operation. The value of an assignment is copied.
 fn take_operation(
     alloc: Global,
-    id: i32,
-    up: &[i32],
+    id: &i32,
+    links: &[Link],
+    tree: &mut Tree,
+    next: &mut u32,
     rows: &mut Vec<SpawnedRow>,
-    op: Op,
+    op: &Op,
 ) -> Result<Outcome, OutOfMemory>
-    requires { list_all is_right rows.old.items ≡ true }
-    ensures taken { IfOk result (λ o. record { outcome = o; kept = record { id = id; spent = false; up = up.now; rows = rows.new.items } } ≡ taken packet_form (record { id = id; spent = false; up = up.now; rows = rows.old.items }) (operation op)) }
-    ensures typed { IsTypedEvent packet_form (record { id = id; spent = false; up = up.now; rows = rows.old.items }) (operation op) }
-    ensures right { list_all is_right rows.new.items ≡ true }
+    requires valid { IsValidScene tree.old.scene }
+    requires values { list_all has_right_values tree.old.nodes ≡ true }
+    requires before { list_all (is_before id.now next.old) tree.old.nodes ≡ true }
+    requires built { is_built_op op.now ≡ true }
+    requires sound { is_sound_op op.now ≡ true }
+    ensures taken { (come : List ℤ) → IfOk result (λ o. record { outcome = o; kept = kept_of id.now come links.now tree.new next.new rows.new.items } ≡ taken packet_form (kept_of id.now come links.now tree.old next.old rows.old.items) (operation op.now)) }
+    ensures right { (come : List ℤ) → AreRight id.now come links.now tree.old next.old rows.old.items → OnOk result (AreRight id.now come links.now tree.new next.new rows.new.items) }
 {
-    match spawn_in(id, op) {
-        Some(spawn) => take_spawn(alloc, up, rows, spawn),
-        None => Ok(Outcome::Refused(Refusal::NotBuilt)),
-    }
-}
-
-fn is_reliable(class: Class) -> bool
-    ensures { result ≡ is_reliable_of class }
-{
-    matches!(class, Class::Reliable)
-}
-
-/// The row that some bytes show, where they are the packet of one.
-fn read_row(alloc: Global, bytes: &[u8]) -> Result<Option<SpawnedRow>, OutOfMemory>
-    ensures row { IfOk result (λ o. o ≡ row_read (read_packet bytes.now)) }
-    ensures typed { IfOk result IsTypedRow }
-{
-    match decode_packet(alloc, bytes) {
-        Ok(message) => Ok(row_of(message)),
-        Err(CodecStop::Bad(_)) => Ok(None),
-        Err(CodecStop::OutOfMemory) => Err(OutOfMemory),
-    }
-}
-
-/// Whether a packet comes from the server's link, reliably, at a client.
-fn is_from_server(id: i32, up: &[i32], from: i32, class: Class) -> bool
-    ensures { result ≡ comes_right id up.now from class }
-{
-    from == SERVER && is_up(up, SERVER) && id != SERVER && is_reliable(class)
-}
-
-/// A row, where it may appear.
-fn welcome(rows: &[SpawnedRow], row: Option<SpawnedRow>) -> Option<SpawnedRow>
-    ensures row { result ≡ option_and_then (kept_if rows.now) row }
-    ensures typed { IsTypedRow row → IsTypedRow result }
-    ensures right { IsTypedRow row → IsRightRow result }
-{
-    match row {
-        Some(row) => {
-            if is_welcome(rows, &row) {
-                Some(row)
-            } else {
-                None
-            }
+    match op {
+        Op::Spawn(op) => take_spawn(alloc, id, links, tree, next, rows, op),
+        Op::Set { path, prop, value } => {
+            let value = value.try_clone(alloc)?;
+            Ok(take_set(alloc, id, tree, path, prop, value))
         }
-        None => None,
+        Op::Custom(_)
+        | Op::Despawn { .. }
+        | Op::Public { .. }
+        | Op::For { .. }
+        | Op::Filter { .. }
+        | Op::Call(_)
+        | Op::Raw { .. }
+        | Op::Frame => Ok(Outcome::Refused(Refusal::NotBuilt)),
     }
 }
 
-/// The row that a received packet brings.
-fn row_in(
+/// An event, as it is seen.
+fn take_seen(
     alloc: Global,
-    id: i32,
-    up: &[i32],
-    rows: &[SpawnedRow],
-    from: i32,
-    class: Class,
-    bytes: &[u8],
-) -> Result<Option<SpawnedRow>, OutOfMemory>
-    ensures row { IfOk result (λ o. o ≡ row_found packet_form (record { id = id; spent = false; up = up.now; rows = rows.now }) from class bytes.now) }
-    ensures typed { IfOk result IsTypedRow }
-    ensures right { IfOk result IsRightRow }
-{
-    if !is_from_server(id, up, from, class) {
-        return Ok(None);
-    }
-    let row = read_row(alloc, bytes)?;
-    Ok(welcome(rows, row))
-}
-
-/// A received packet.
-fn take_packet(
-    alloc: Global,
-    id: i32,
-    up: &[i32],
+    id: &i32,
+    come: &mut IndexSet<i32>,
+    links: &mut Vec<Link>,
+    tree: &mut Tree,
+    next: &mut u32,
     rows: &mut Vec<SpawnedRow>,
-    from: i32,
-    class: Class,
-    bytes: &[u8],
+    event: &Event,
 ) -> Result<Outcome, OutOfMemory>
-    requires { list_all is_right rows.old.items ≡ true }
-    ensures taken { IfOk result (λ o. record { outcome = o; kept = record { id = id; spent = false; up = up.now; rows = rows.new.items } } ≡ taken packet_form (record { id = id; spent = false; up = up.now; rows = rows.old.items }) (arrived from class bytes.now)) }
-    ensures typed { OnOk result (IsTypedEvent packet_form (record { id = id; spent = false; up = up.now; rows = rows.old.items }) (arrived from class bytes.now)) }
-    ensures right { list_all is_right rows.new.items ≡ true }
+    requires right { AreRight id.now come.old.keys links.old.items tree.old next.old rows.old.items }
+    requires built { is_built_event event.now ≡ true }
+    requires sound { is_sound_event event.now ≡ true }
+    ensures taken { IfOk result (λ o. record { outcome = o; kept = kept_of id.now come.new.keys links.new.items tree.new next.new rows.new.items } ≡ taken packet_form (kept_of id.now come.old.keys links.old.items tree.old next.old rows.old.items) event.now) }
+    ensures right { OnOk result (AreRight id.now come.new.keys links.new.items tree.new next.new rows.new.items) }
 {
-    match row_in(alloc, id, up, rows, from, class, bytes)? {
-        Some(row) => {
-            put_row(rows, row)?;
-            Ok(done(alloc, Items::new(alloc)))
-        }
-        None => Ok(Outcome::Fault(Fault::NotBuilt)),
+    match event {
+        Event::Up(peer) => take_up(alloc, id, come, links, tree, rows, peer),
+        Event::Down(peer) => Ok(take_down(alloc, links, tree, peer)),
+        Event::Op(op) => take_operation(alloc, id, links, tree, next, rows, op),
+        Event::Received {
+            from,
+            class: _,
+            bytes,
+        } => take_packet(alloc, id, links, tree, from, bytes.as_slice()),
     }
 }
 
@@ -210,73 +103,76 @@ fn take_packet(
 fn take(
     alloc: Global,
     id: &i32,
-    up: &mut Vec<i32>,
+    come: &mut IndexSet<i32>,
+    links: &mut Vec<Link>,
+    tree: &mut Tree,
+    next: &mut u32,
     rows: &mut Vec<SpawnedRow>,
     event: Event,
 ) -> Result<Outcome, OutOfMemory>
-    requires { list_all is_right rows.old.items ≡ true }
-    ensures taken { IfOk result (λ o. record { outcome = o; kept = record { id = id.now; spent = false; up = up.new.items; rows = rows.new.items } } ≡ taken packet_form (record { id = id.now; spent = false; up = up.old.items; rows = rows.old.items }) event) }
-    ensures typed { OnOk result (IsTypedEvent packet_form (record { id = id.now; spent = false; up = up.old.items; rows = rows.old.items }) event) }
-    ensures right { list_all is_right rows.new.items ≡ true }
+    requires right { AreRight id.now come.old.keys links.old.items tree.old next.old rows.old.items }
+    requires built { is_built_event event ≡ true }
+    requires sound { is_sound_event event ≡ true }
+    ensures taken { IfOk result (λ o. record { outcome = o; kept = kept_of id.now come.new.keys links.new.items tree.new next.new rows.new.items } ≡ taken packet_form (kept_of id.now come.old.keys links.old.items tree.old next.old rows.old.items) event) }
+    ensures right { OnOk result (AreRight id.now come.new.keys links.new.items tree.new next.new rows.new.items) }
 {
-    let id = *id;
-    match event {
-        Event::Up(peer) => take_link(alloc, id, up, rows, peer),
-        Event::Down(_) => Ok(Outcome::Refused(Refusal::NotBuilt)),
-        Event::Op(op) => take_operation(alloc, id, up, rows, op),
-        Event::Received { from, class, bytes } => {
-            take_packet(alloc, id, up, rows, from, class, bytes.as_slice())
-        }
-    }
+    take_seen(alloc, id, come, links, tree, next, rows, &event)
 }
 
-/// One peer of the first path.
+/// One peer over any valid scene.
 ///
 /// It takes events one after the other. After want of memory it is spent, and says so from then on.
 #[derive(Drop)]
 pub struct Peer {
     id: i32,
     spent: bool,
-    up: Vec<i32>,
+    come: IndexSet<i32>,
+    links: Vec<Link>,
+    tree: Tree,
+    next: u32,
     rows: Vec<SpawnedRow>,
 }
 
 impl Model for Peer {
-    ghost use Rattle.std.specs.Prelude.{◌≡◌, true};
-    ghost use Rattle.std.specs.List.{list_all};
-    ghost use Rattle.gd_variant.specs.contracts.text.Text as text;
+    ghost use Rattle.std.specs.Prelude.{◌≡◌, false};
     ghost use Rattle.std.specs.Coded.{codes};
-    ghost use Rattle.peer_core.specs.FirstPath.{is_right};
-    ghost use Rattle.peer_core.specs.Histories.{Kept};
+    ghost use Rattle.gd_variant.specs.contracts.value.Variant as variant;
+    ghost use Rattle.peer_core.specs.Kept.{Kept};
+    ghost use Rattle.peer_core.specs.Parts.{parts_kept};
+    ghost use Rattle.peer_core.specs.Rights.{AreRight};
 
     ghost Value = { Kept };
 
-    ghost view = { λ p. record { id = p.id; spent = p.spent; up = p.up.items; rows = p.rows.items } };
+    ghost coded = { Prim.hlevel (codes, variant.the_row.coded) };
 
-    ghost invariant = { λ p. list_all is_right p.rows.items ≡ true };
+    ghost view = { λ p. parts_kept p.id p.spent p.come.keys p.links.items p.tree p.next p.rows.items };
+
+    ghost invariant = { λ p. p.spent ≡ false → AreRight p.id p.come.keys p.links.items p.tree p.next p.rows.items };
 }
 
 impl Peer {
-    ghost use Rattle.peer_core.specs.Histories.{StandsFor};
-    ghost use Rattle.peer_core.specs.Built.{is_built, path_answer};
-
     /// A peer with this number, 1 for the server, before its first event.
-    pub fn new(alloc: Global, id: i32) -> Peer
-        requires { pos 1 ≤ℤ id }
-        ensures fresh { result ≡ record { id = id; spent = false; up = []; rows = [] } }
-        ensures stands { StandsFor packet_form result [] }
+    pub fn new(alloc: Global, id: i32, scene: &Scene) -> Result<Peer, OutOfMemory>
+        requires id { pos 1 ≤ℤ id }
+        requires scene { IsValidScene scene.now }
+        ensures fresh { IfOk result (λ p. p ≡ record { who = record { id = id; scene = scene.now }; spent = false; come = []; up = []; nodes = fixed_nodes scene.now; next = 1; rows = [] }) }
+        ensures stands { IfOk result (λ p. StandsFor packet_form p []) }
     {
-        Peer {
+        let tree = Tree::new(alloc, scene)?;
+        Ok(Peer {
             id,
             spent: false,
-            up: Vec::new(alloc),
+            come: IndexSet::new(alloc),
+            links: Vec::new(alloc),
+            tree,
+            next: 1,
             rows: Vec::new(alloc),
-        }
+        })
     }
 
     /// The peer's number.
     pub fn id(&self) -> i32
-        ensures { result ≡ self.now.id }
+        ensures { result ≡ self.now.who.id }
     {
         self.id
     }
@@ -288,29 +184,47 @@ impl Peer {
         self.spent
     }
 
+    /// The peer is spent from now on.
+    pub fn give_up(&mut self)
+        ensures { self.new ≡ record self.old { spent = true } }
+    {
+        self.spent = true;
+    }
+
     /// Takes an event and answers it.
     ///
-    /// After `Refused` or `Fault` the peer is unchanged and has sent nothing.
+    /// After `Refused` or `Fault` the peer is unchanged and has sent nothing. A packet of a kind that
+    /// isn't built is a `Fault` that changes nothing.
     pub fn step(&mut self, alloc: Global, event: Event) -> Result<Outcome, Stop>
+        requires built { is_built_event event ≡ true }
+        requires sound { is_sound_event event ≡ true }
         // the answer of the definitions, for every list of events that the peer stands for
-        ensures answer { (es : List EventOf) → StandsFor packet_form self.old es → IfOk result (λ o. o ≡ path_answer packet_form self.old.id es event) }
+        ensures answer { (es : List EventOf) → StandsFor packet_form self.old es → IfOk result (λ o. o ≡ built_answer packet_form self.old.who es event) }
         // afterwards it stands for that list with this event
-        ensures stands { (es : List EventOf) → StandsFor packet_form self.old es → is_built packet_form self.old.id (accepted_events packet_form (path_peer self.old.id) es) event ≡ true → OnOk result (StandsFor packet_form self.new (event ∷ es)) }
-        // one step on what it keeps, and what types say of the event
+        ensures stands { (es : List EventOf) → StandsFor packet_form self.old es → is_answered packet_form self.old.who es event ≡ true → OnOk result (StandsFor packet_form self.new (event ∷ es)) }
+        // one step on what it keeps
         ensures kept { IfOk result (λ o. record { outcome = o; kept = self.new } ≡ taken packet_form self.old event) }
-        ensures typed { OnOk result (IsTypedEvent packet_form self.old event) }
         ensures unchanged { IfOk result (λ o. is_done o ≡ false → self.new ≡ self.old) }
 
         // a spent peer says so, and only want of memory spends it
         ensures was_spent { result ≡ Err stop.Spent ↔ self.old.spent ≡ true }
         ensures spends { OnErr result (self.new.spent ≡ true) }
         ensures lives { OnOk result (self.new.spent ≡ false) }
-        ensures same_id { self.new.id ≡ self.old.id }
+        ensures same_id { self.new.who.id ≡ self.old.who.id }
     {
         if self.spent {
             return Err(Stop::Spent);
         }
-        match take(alloc, &self.id, &mut self.up, &mut self.rows, event) {
+        match take(
+            alloc,
+            &self.id,
+            &mut self.come,
+            &mut self.links,
+            &mut self.tree,
+            &mut self.next,
+            &mut self.rows,
+            event,
+        ) {
             Ok(outcome) => Ok(outcome),
             Err(OutOfMemory) => {
                 self.spent = true;
@@ -321,13 +235,14 @@ impl Peer {
 
     /// The peers that are up, and every node with its values.
     pub fn report(&self, alloc: Global) -> Result<Report, Stop>
-        ensures report { (es : List EventOf) → StandsFor packet_form self.now es → IfOk result (λ r. r ≡ report_of (path_peer self.now.id) (accepted_events packet_form (path_peer self.now.id) es)) }
+        ensures report { (es : List EventOf) → StandsFor packet_form self.now es → IfOk result (λ r. r ≡ report_of self.now.who (accepted_events packet_form self.now.who es)) }
+        ensures kept { IfOk result (λ r. r ≡ record { peers = self.now.up; rows = map row_of self.now.nodes }) }
         ensures was_spent { result ≡ Err stop.Spent ↔ self.now.spent ≡ true }
     {
         if self.spent {
             return Err(Stop::Spent);
         }
-        match report_with(alloc, &self.up, &self.rows) {
+        match report_with(alloc, &self.links, &self.tree) {
             Ok(report) => Ok(report),
             Err(OutOfMemory) => Err(Stop::OutOfMemory),
         }

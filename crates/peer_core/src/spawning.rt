@@ -1,102 +1,399 @@
-//! Spawns of the first path: the operation, why it is refused, and the row that it makes.
-ghost use Rattle.std.specs.Prelude.{◌≡◌, ◌+◌, ◌*◌, ◌<◌, true, length, IfSome, codes};
-ghost use Rattle.gd_variant.specs.Words.{some_is, text_eq};
-ghost use Rattle.peer_core.specs.FirstPath.{fits_long, int_in, setting_in, spawn_in};
-ghost use Rattle.peer_core.specs.Histories.{next_row};
-ghost use Rattle.peer_core.specs.Steps.{IsTypedSpawn, spawn_found, spawn_judged};
+//! Spawns: where they go, and why they are refused.
+ghost use Rattle.std.specs.Prelude.{◌≡◌, ◌<◌, ◌≤◌, ◌+◌, ℕ, List, Option, not, true, Some, None, is_some, IfOk, IfSome, length, find, filter, position, option_and_then, nat_lt, nat_le, ◌&&◌};
+ghost use Rattle.std.specs.List.{list_any};
+ghost use Rattle.std.specs.Option.{option_copied};
+ghost use Rattle.gd_variant.specs.Words.{text_eq, has_text, some_is, or_else, place_of, first_of};
+ghost use Rattle.scene_model.specs.declared.scene.Node.{Node as NodeOf};
+ghost use Rattle.scene_model.specs.declared.scene.SpawnerDef.{SpawnerDef as SpawnerDefOf};
+ghost use Rattle.scene_model.specs.declared.scene.Prop.{Prop as PropOf};
+ghost use Rattle.scene_model.specs.Lookup.{has_prop as has_prop_of, spawner_at, spawner_of as spawner_in, fixed_node as fixed_node_of, scene_place as scene_place_of};
+ghost use Rattle.scene_model.specs.Paths.{joined as joined_of};
+ghost use Rattle.scene_model.specs.Valid.{IsValidScene};
+ghost use Rattle.peer_model.specs.Rows.{syncs_at};
+ghost use Rattle.peer_model.specs.Refusals.{may_make as may_make_of, argument_fits as argument_fits_of, setting_refusals};
+ghost use Rattle.peer_core.specs.declared.rows.SpawnedRow.{SpawnedRow as RowOf};
+ghost use Rattle.peer_core.specs.declared.spawning.Site.{Site as SiteOf};
+ghost use Rattle.peer_core.specs.Judged.{is_at_limit as is_at_limit_of, rows_of_spawner, spawn_judged};
+ghost use Rattle.peer_core.specs.Sites.{IsSite, byte_in, under_in, spawner_judged, name_judged, room_judged, sets_judged, argument_judged, values_judged, rest_judged, named_judged, props_at};
 
-use crate::links::SERVER;
-use crate::rows::{SpawnedRow, has_no_room, is_taken};
-use crate::texts::{is_right_name, is_text};
-use gd_variant::{Text, Variant};
-use scene_model::{Op, Prop, Refusal, SpawnOp};
+use crate::lookup::{scene_place, syncs_of};
+use crate::rows::SpawnedRow;
+use crate::texts::{is_name, same_text};
+use crate::values::{fits, owns};
+use gd_variant::{OutOfMemory, Text, Variant};
+use headless_tree::Tree;
+use scene_model::{Node, Prop, Refusal, Role, Scene, SpawnOp, SpawnerDef, SyncDef};
+use sqlite_items::at as item_at;
+use std::alloc::Global;
 
-/// The Int of a value, where it is one.
-pub fn int_of(value: &Variant) -> Option<i64>
-    ensures int { result ≡ int_in value.now }
-    ensures range { IfSome result (λ k. fits_long k ≡ true) }
+/// The most rows of one authority.
+const MOST_ROWS: usize = 4096;
+
+/// The greatest number of a row or synchronizer.
+const MOST_NET_ID: u64 = 2147483647;
+
+/// The scene byte of a custom spawn.
+const CUSTOM_BYTE: u8 = 255;
+
+/// Where a spawn puts its node: the parent's path, its own path, the place of its scene, and the
+/// first place of that scene in the spawner's list.
+#[derive(Drop)]
+pub struct Site {
+    pub under: Text,
+    pub path: Text,
+    pub place: Option<u32>,
+    pub byte: u8,
+}
+
+fn fixed_node<'a>(scene: &'a Scene, path: &Text) -> Option<&'a Node>
+    ensures { option_copied result ≡ fixed_node_of scene.now path.now }
 {
-    match value {
-        Variant::Int(k) => Some(*k),
-        _ => None,
+    scene
+        .nodes
+        .as_slice()
+        .iter()
+        .find(|node| same_text(&node.path, path))
+}
+
+/// A node's spawner, where it is one.
+pub fn spawner_of(node: &Node) -> Option<&SpawnerDef>
+    ensures { option_copied result ≡ spawner_in node.now }
+{
+    match &node.role {
+        Role::Spawner(def) => Some(def),
+        Role::Sync(_) => None,
+        Role::Plain => None,
     }
 }
 
-/// The value of the one setting `v`.
-fn setting_of(sets: &[Prop]) -> Option<i64>
-    ensures int { result ≡ setting_in sets.now }
-    ensures range { IfSome result (λ k. fits_long k ≡ true) }
+/// The spawner at a path.
+fn spawner_with<'a>(scene: &'a Scene, path: &Text) -> Option<&'a SpawnerDef>
+    ensures { option_copied result ≡ spawner_at scene.now path.now }
 {
-    match sets {
-        [setting] => {
-            if is_text(&setting.name, b"v") {
-                int_of(&setting.value)
-            } else {
-                None
+    match fixed_node(scene, path) {
+        Some(node) => spawner_of(node),
+        None => None,
+    }
+}
+
+/// The path of a node below another.
+pub fn joined(alloc: Global, under: &Text, name: &Text) -> Result<Text, OutOfMemory>
+    ensures { IfOk result (λ t. t ≡ joined_of under.now name.now) }
+{
+    let mut path = String::from_str(alloc, under.as_str())?;
+    path.push('/')?;
+    path.push_str(name.as_str())?;
+    Text::from_str(alloc, path.as_str())
+}
+
+fn text_place(texts: &[Text], text: &Text) -> Option<usize>
+    ensures place { result ≡ position (text_eq text.now) texts.now }
+    ensures within { IfSome result (λ i. i < length texts.now) }
+{
+    texts.iter().position(|other| same_text(text, other))
+}
+
+fn byte_of(def: &SpawnerDef, name: &Text) -> u8
+    requires { length def.now.scenes ≤ 255 }
+    ensures { result ≡ or_else (place_of name.now def.now.scenes) 255 }
+{
+    match text_place(def.scenes.as_slice(), name) {
+        Some(place) => place as u8,
+        None => CUSTOM_BYTE,
+    }
+}
+
+fn has_name(texts: &[Text], text: &Text) -> bool
+    ensures { result ≡ has_text text.now texts.now }
+{
+    texts.iter().any(|other| same_text(text, other))
+}
+
+fn may_make(op: &SpawnOp, def: &SpawnerDef) -> bool
+    ensures { result ≡ may_make_of op.now def.now }
+{
+    match &op.scene {
+        Some(name) => has_name(def.scenes.as_slice(), name),
+        None => def.custom.is_some(),
+    }
+}
+
+fn judge_owned(id: &i32, tree: &Tree, def: Option<&SpawnerDef>, op: &SpawnOp) -> Option<Refusal>
+    ensures { result ≡ spawner_judged (record { id = id.now; scene = tree.now.scene }) tree.now.nodes (option_copied def.entry) op.now }
+{
+    match tree.node_at(op.spawner.as_str()) {
+        Some(node) => match def {
+            Some(def) => {
+                if !owns(id, node) {
+                    Some(Refusal::NotAuthority)
+                } else if !may_make(op, def) {
+                    Some(Refusal::NoScene)
+                } else {
+                    None
+                }
             }
-        }
-        _ => None,
+            None => Some(Refusal::NoSpawner),
+        },
+        None => Some(Refusal::NoNode),
     }
 }
 
-fn is_scene(scene: &Option<Text>) -> bool
-    ensures { result ≡ some_is (λ s. text_eq s (codes "p")) scene.now }
+/// Why a name is none for a node at a path.
+fn judge_name(tree: &Tree, name: &Text, path: &Text) -> Option<Refusal>
+    ensures { result ≡ name_judged tree.now.nodes name.now path.now }
 {
-    match scene {
-        Some(name) => is_text(name, b"p"),
+    if !is_name(name) {
+        return Some(Refusal::BadName);
+    }
+    match tree.node_at(path.as_str()) {
+        Some(_) => Some(Refusal::NameTaken),
+        None => None,
+    }
+}
+
+fn count_from_spawner(rows: &[SpawnedRow], spawner: &Text) -> usize
+    ensures { result ≡ length (rows_of_spawner spawner.now rows.now) }
+{
+    rows.iter()
+        .filter(|row| same_text(&row.spawner, spawner))
+        .count()
+}
+
+fn is_at_limit(rows: &[SpawnedRow], spawner: &Text, def: &SpawnerDef) -> bool
+    ensures { result ≡ is_at_limit_of rows.now spawner.now def.now }
+{
+    0 < def.limit && def.limit as usize <= count_from_spawner(rows, spawner)
+}
+
+fn has_no_room(rows: &[SpawnedRow], spawner: &Text, def: Option<&SpawnerDef>) -> bool
+    ensures { result ≡ some_is (is_at_limit_of rows.now spawner.now) (option_copied def.entry) }
+{
+    match def {
+        Some(def) => is_at_limit(rows, spawner, def),
         None => false,
     }
 }
 
-/// The name and the value of a spawn of the first path.
-pub fn spawn_of(op: SpawnOp) -> Option<(Text, i64)>
-    ensures spawn { result ≡ spawn_in op }
-    ensures typed { IsTypedSpawn result }
+fn judge_room(
+    rows: &[SpawnedRow],
+    next: u32,
+    spawner: &Text,
+    def: Option<&SpawnerDef>,
+    count: usize,
+) -> Option<Refusal>
+    requires { count ≤ 4294967295 }
+    ensures { result ≡ room_judged rows.now next spawner.now (option_copied def.entry) count }
 {
-    let SpawnOp {
-        spawner,
-        scene,
-        name,
-        sets,
-        arg,
-    } = op;
-    if !(is_text(&spawner, b"s") && is_scene(&scene) && arg.is_none()) {
-        return None;
+    if has_no_room(rows, spawner, def) {
+        return Some(Refusal::SpawnLimit);
     }
-    match setting_of(sets.as_slice()) {
+    if MOST_ROWS <= rows.len() {
+        return Some(Refusal::NodesFull);
+    }
+    if MOST_NET_ID < next as u64 + count as u64 {
+        return Some(Refusal::NetIdsFull);
+    }
+    None
+}
+
+fn has_prop(props: &[Prop], name: &Text) -> bool
+    ensures { result ≡ list_any (λ (p : PropOf). text_eq name.now p.name) props.now }
+{
+    props.iter().any(|prop| same_text(name, &prop.name))
+}
+
+fn is_among(props: &[Prop], name: &Text) -> bool
+    ensures { result ≡ has_prop_of name.now props.now }
+{
+    has_prop(props, name)
+}
+
+fn judge_setting(props: &[Prop], set: &Prop) -> Option<Refusal>
+    ensures { result ≡ first_of (setting_refusals props.now set.now) }
+{
+    if !is_among(props, &set.name) {
+        return Some(Refusal::NoProp);
+    }
+    if !fits(&set.value) {
+        return Some(Refusal::ValueTooLong);
+    }
+    None
+}
+
+fn judge_sets(props: &[Prop], sets: &[Prop]) -> Option<Refusal>
+    ensures { result ≡ sets_judged props.now sets.now }
+{
+    for set in sets {
+        match judge_setting(props, set) {
+            Some(refusal) => return Some(refusal),
+            None => {}
+        }
+    }
+    None
+}
+
+fn judge_argument(arg: &Option<Variant>) -> Option<Refusal>
+    ensures { result ≡ argument_judged arg.now }
+{
+    match arg {
         Some(value) => {
-            is_right_name(&name);
-            Some((name, value))
+            if fits(value) {
+                None
+            } else {
+                Some(Refusal::ValueTooLong)
+            }
         }
         None => None,
     }
 }
 
-/// Why a spawn is refused.
-pub fn judge_spawn(name: &Text, rows: &[SpawnedRow]) -> Option<Refusal>
-    ensures { result ≡ spawn_judged name.now rows.now }
+/// The synchronizers of the scene at a place.
+pub fn syncs_at_place(scene: &Scene, place: Option<u32>) -> &[SyncDef]
+    ensures { result.now ≡ syncs_at scene.now place }
 {
-    if !is_right_name(name) {
-        return Some(Refusal::BadName);
+    match place {
+        Some(place) => syncs_of(scene, place),
+        None => &[],
     }
-    if is_taken(rows, name) {
-        return Some(Refusal::NameTaken);
-    }
-    if has_no_room(rows) {
-        return Some(Refusal::NodesFull);
-    }
-    None
 }
 
-/// The row that a spawn makes of its name and value: it takes a number, and its synchronizer the one after it.
-pub fn make_row(rows: &[SpawnedRow], spawn: (Text, i64)) -> SpawnedRow
-    requires { length rows.now < 4096 }
-    ensures { result ≡ next_row rows.now spawn.0 spawn.1 }
+fn props_of(scene: &Scene, place: Option<u32>) -> &[Prop]
+    ensures { result.now ≡ props_at scene.now place }
 {
-    let num = 1 + 2 * rows.len() as u32;
-    SpawnedRow {
-        name: spawn.0,
-        num,
-        value: spawn.1,
+    match place {
+        Some(place) => match item_at(scene.scenes.as_slice(), place as usize) {
+            Some(def) => def.props.as_slice(),
+            None => &[],
+        },
+        None => &[],
     }
+}
+
+fn judge_values(scene: &Scene, place: Option<u32>, op: &SpawnOp) -> Option<Refusal>
+    ensures { result ≡ values_judged scene.now place op.now }
+{
+    match judge_sets(props_of(scene, place), op.sets.as_slice()) {
+        Some(refusal) => Some(refusal),
+        None => judge_argument(&op.arg),
+    }
+}
+
+fn judge_rest(
+    scene: &Scene,
+    rows: &[SpawnedRow],
+    next: u32,
+    def: Option<&SpawnerDef>,
+    op: &SpawnOp,
+    place: Option<u32>,
+) -> Option<Refusal>
+    requires { IsValidScene scene.now }
+    ensures { result ≡ rest_judged scene.now rows.now next (option_copied def.entry) op.now place }
+{
+    let count = syncs_at_place(scene, place).len();
+    match judge_room(rows, next, &op.spawner, def, count) {
+        Some(refusal) => Some(refusal),
+        None => judge_values(scene, place, op),
+    }
+}
+
+fn judge_named(
+    tree: &Tree,
+    rows: &[SpawnedRow],
+    next: u32,
+    def: Option<&SpawnerDef>,
+    op: &SpawnOp,
+    site: &Site,
+) -> Option<Refusal>
+    requires { IsValidScene tree.now.scene }
+    ensures { result ≡ named_judged tree.now rows.now next (option_copied def.entry) op.now site.now }
+{
+    match judge_name(tree, &op.name, &site.path) {
+        Some(refusal) => Some(refusal),
+        None => judge_rest(tree.scene(), rows, next, def, op, site.place),
+    }
+}
+
+/// Why a spawn by scene is refused, by where it would go.
+pub fn judge_spawn(
+    id: &i32,
+    tree: &Tree,
+    rows: &[SpawnedRow],
+    next: u32,
+    op: &SpawnOp,
+    site: &Site,
+) -> Option<Refusal>
+    requires valid { IsValidScene tree.now.scene }
+    requires scene { is_some op.now.scene ≡ true }
+    requires site { IsSite tree.now.scene (spawner_at tree.now.scene op.now.spawner) op.now site.now }
+    ensures { result ≡ spawn_judged (record { id = id.now; scene = tree.now.scene }) tree.now.nodes rows.now next op.now }
+{
+    let def = spawner_with(tree.scene(), &op.spawner);
+    match judge_owned(id, tree, def, op) {
+        Some(refusal) => Some(refusal),
+        None => judge_named(tree, rows, next, def, op, site),
+    }
+}
+
+fn under_of(alloc: Global, def: Option<&SpawnerDef>) -> Result<Text, OutOfMemory>
+    ensures { IfOk result (λ t. t ≡ under_in (option_copied def.entry)) }
+{
+    match def {
+        Some(def) => def.under.try_clone(alloc),
+        None => Text::from_str(alloc, ""),
+    }
+}
+
+fn byte_for(name: &Option<Text>, def: Option<&SpawnerDef>) -> u8
+    requires { IfSome (option_copied def) (λ (d : SpawnerDefOf). length d.scenes ≤ 255) }
+    ensures { result ≡ byte_in name.now (option_copied def.entry) }
+{
+    match name {
+        Some(name) => match def {
+            Some(def) => byte_of(def, name),
+            None => CUSTOM_BYTE,
+        },
+        None => CUSTOM_BYTE,
+    }
+}
+
+fn place_for(scene: &Scene, name: &Option<Text>) -> Option<u32>
+    requires { IsValidScene scene.now }
+    ensures place { result ≡ option_and_then (scene_place_of scene.now) name.now }
+    ensures within { IfSome result (λ i. i < length scene.now.scenes) }
+{
+    match name {
+        Some(name) => scene_place(scene, name),
+        None => None,
+    }
+}
+
+fn site_with(
+    alloc: Global,
+    scene: &Scene,
+    def: Option<&SpawnerDef>,
+    op: &SpawnOp,
+) -> Result<Site, OutOfMemory>
+    requires valid { IsValidScene scene.now }
+    requires few { IfSome (option_copied def) (λ (d : SpawnerDefOf). length d.scenes ≤ 255) }
+    ensures site { IfOk result (IsSite scene.now (option_copied def.entry) op.now) }
+    ensures within { IfOk result (λ (x : SiteOf). IfSome x.place (λ i. i < length scene.now.scenes)) }
+{
+    let under = under_of(alloc, def)?;
+    let path = joined(alloc, &under, &op.name)?;
+    Ok(Site {
+        under,
+        path,
+        place: place_for(scene, &op.scene),
+        byte: byte_for(&op.scene, def),
+    })
+}
+
+/// Where a spawn by scene would put its node.
+pub fn site_of(alloc: Global, scene: &Scene, op: &SpawnOp) -> Result<Site, OutOfMemory>
+    requires { IsValidScene scene.now }
+    ensures site { IfOk result (IsSite scene.now (spawner_at scene.now op.now.spawner) op.now) }
+    ensures within { IfOk result (λ (x : SiteOf). IfSome x.place (λ i. i < length scene.now.scenes)) }
+{
+    let def = spawner_with(scene, &op.spawner);
+    site_with(alloc, scene, def, op)
 }

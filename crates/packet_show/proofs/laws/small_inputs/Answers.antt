@@ -1,6 +1,6 @@
 use Rattle.std.proofs.Common.{refl}
 use Rattle.hex.specs.Hex.{decode_pairs}
-use Rattle.packet_show.specs.Output.{read_in}
+use Rattle.line_runs.specs.Output.{read_in}
 use Rattle.packet_show.specs.Shown.{shown}
 use Rattle.packet_show.proofs.laws.small_inputs.Goals as goal
 

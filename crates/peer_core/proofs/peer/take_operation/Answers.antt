@@ -1,11 +1,7 @@
-use Rattle.std.proofs.Common.{◌≡◌, ap, ◌∙◌, subst, false}
-use Rattle.std.specs.Prelude.{IfOk}
-use Rattle.peer_core.specs.Steps.{packet_form, found_taken, spawn_found}
-use Rattle.peer_core.proofs.Lists.{seen_is}
-use Rattle.peer_core.proofs.Takes.{made_of}
 use Rattle.peer_core.proofs.peer.take_operation.Goals as goal
 
-pub returns-in-Some-clause-taken : goal.returns-in-Some-clause-taken
-returns-in-Some-clause-taken c =
-    subst (λ f. IfOk c.take_spawn.result (λ o. made_of c.args.id c.args.up.now o c.take_spawn.new.rows.items ≡ found_taken packet_form (record { id = c.args.id; spent = false; up = c.args.up.now; rows = c.args.rows.now.items }) f))
-    (c.in-Some.ensures.spawn ∙ ap (λ i. spawn_found i c.args.op) (seen_is c.args.id c.ranges.id)) (c.take_spawn.ensures.taken c.args.id)
+pub returns-in-Spawn-clause-taken : goal.returns-in-Spawn-clause-taken
+returns-in-Spawn-clause-taken c = λ come. rw c.in-Spawn.is (c.take_spawn.ensures.taken come)
+
+pub returns-in_ok-value-in-Set-clause-right : goal.returns-in_ok-value-in-Set-clause-right
+returns-in_ok-value-in-Set-clause-right c = λ come r. c.take_set.ensures.right come c.args.links.now c.args.next.now c.args.rows.now.items r

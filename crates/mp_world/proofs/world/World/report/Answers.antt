@@ -1,18 +1,31 @@
-use Rattle.std.proofs.Common.{◌≡◌, sym, ap, ◌∙◌, subst, w32, to_z}
-use Rattle.peer_core.proofs.Lists.{seen_is}
-use Rattle.std.specs.Prelude.{IfOk}
-use Rattle.peer_model.specs.Heard.{server}
-use Rattle.mp_world.specs.Steps.{client_id}
-use Rattle.mp_world.proofs.Worlds.{world_of}
-use Rattle.mp_world.proofs.Reports.{server_report, server_stands, client_report, connected_here}
+use Rattle.std.proofs.Common.{subst, w32, Some}
+use Rattle.std.specs.Prelude.{IfOk, option_map, Err, ◌≡◌, ◌↔◌, false}
+use Rattle.std.proofs.lemmas.Int.{to_z-of_z}
+use Rattle.mp_world.specs.declared.world.ReportNo.TheVariants as report_no
+use Rattle.mp_world.specs.Steps.{live_parts, kept_at, kept_report, has_peer}
+use Rattle.mp_world.proofs.Calls.{live_is, report_is, nobody_is, there_is}
 use Rattle.mp_world.proofs.world.World.report.Goals as goal
 
-pub returns-then-peer-eq-SERVER-clause-report : goal.returns-then-peer-eq-SERVER-clause-report
-returns-then-peer-eq-SERVER-clause-report c = λ es h.
-    subst (λ x. IfOk c.report_of_peer.result (λ r. r ≡ x)) (server_report _ c.args.self.now (world_of es) c.args.peer c.self.view_is h (sym (seen_is c.args.peer c.ranges.peer) ∙ ap (to_z w32) c.if-peer-eq-SERVER.true))
-    (c.report_of_peer.ensures.report ((world_of es).events server) (server_stands _ c.args.self.now (world_of es) c.self.view_is h))
+pub returns-clause-report : goal.returns-clause-report
+returns-clause-report c = λ es stands.
+    let h = stands.parts in
+    let seen = to_z-of_z w32 c.args.peer c.ranges.peer in
+    report_is c.report_at.result c.args.self.now es c.args.peer h
+    (subst (λ v. IfOk c.report_at.result (λ r. option_map kept_report (kept_at v c.args.peer) ≡ Some r)) (live_is c.args.self.now _ _ _ c.self.view_is c.if-self.false)
+    (subst (λ p. IfOk c.report_at.result (λ r. option_map kept_report (kept_at (live_parts c.self.inside.server c.self.inside.clients.items) p) ≡ Some r)) seen c.report_at.ensures.report))
 
-pub returns-then-peer-eq-CLIENT-clause-report : goal.returns-then-peer-eq-CLIENT-clause-report
-returns-then-peer-eq-CLIENT-clause-report c = λ es h.
-    subst (λ x. IfOk c.report_of_peer-then-peer-eq-CLIENT.result (λ r. r ≡ x)) (client_report _ c.args.self.now c.in-Some.client (world_of es) c.args.peer c.self.view_is c.in-Some.is h (sym (seen_is c.args.peer c.ranges.peer) ∙ ap (to_z w32) c.if-peer-eq-CLIENT.true))
-    (c.report_of_peer-then-peer-eq-CLIENT.ensures.report ((world_of es).events client_id) (connected_here _ c.args.self.now c.in-Some.client (world_of es) c.self.view_is c.in-Some.is h).stands)
+pub returns-clause-no_peer : goal.returns-clause-no_peer
+returns-clause-no_peer c = λ es stands.
+    let h = stands.parts in
+    let seen = to_z-of_z w32 c.args.peer c.ranges.peer in
+    nobody_is (c.report_at.result ≡ Err report_no.NoPeer) c.args.self.now es c.args.peer h
+    (subst (λ v. (c.report_at.result ≡ Err report_no.NoPeer) ↔ (has_peer v c.args.peer ≡ false)) (live_is c.args.self.now _ _ _ c.self.view_is c.if-self.false)
+    (subst (λ p. (c.report_at.result ≡ Err report_no.NoPeer) ↔ (has_peer (live_parts c.self.inside.server c.self.inside.clients.items) p ≡ false)) seen c.report_at.ensures.no_peer))
+
+pub returns-clause-there : goal.returns-clause-there
+returns-clause-there c = λ es stands.
+    let h = stands.parts in
+    let seen = to_z-of_z w32 c.args.peer c.ranges.peer in
+    there_is c.report_at.result c.args.self.now es c.args.peer h
+    (subst (λ v. IfOk c.report_at.result (λ r. option_map kept_report (kept_at v c.args.peer) ≡ Some r)) (live_is c.args.self.now _ _ _ c.self.view_is c.if-self.false)
+    (subst (λ p. IfOk c.report_at.result (λ r. option_map kept_report (kept_at (live_parts c.self.inside.server c.self.inside.clients.items) p) ≡ Some r)) seen c.report_at.ensures.report))

@@ -1,0 +1,105 @@
+#!/usr/bin/env bash
+# Times the proved program on a large scene and on a large session.
+#
+#   bench/replay.sh [SIZE]      SIZE nodes and spawns (4000, at most 4096), and half as many
+#
+# The scene has SIZE fixed nodes, each with two properties; it is read and nothing else. The session has CLIENTS
+# clients (8), SIZE spawns at the server, a delivery of each of them at each client, and a report of each client.
+# Each is timed at half the size too. Of REPEATS runs (3) the fastest counts, and the time of a scene of one node is
+# taken off. It prints the times, their ratios, and the peak memory.
+# It builds nothing: `rt ci`, or `rt run` in crates/godot_mp_cli, makes the program first. PROGRAM names another
+# program to be measured. It needs python3.
+set -u
+here=$(cd "$(dirname "$0")" && pwd)
+program=${PROGRAM:-$here/../crates/godot_mp_cli/out/godot_mp_cli}
+size=${1:-4000}
+clients=${CLIENTS:-8}
+repeats=${REPEATS:-3}
+usage() { echo "usage: bench/replay.sh [SIZE], with SIZE from 2 to 4096, CLIENTS from 1 to 64, REPEATS from 1" >&2; exit 2; }
+for number in "$size" "$clients" "$repeats"; do
+    case $number in '' | *[!0-9]* | 0*) usage ;; esac
+    [ ${#number} -le 6 ] || usage
+done
+[ "$size" -ge 2 ] && [ "$size" -le 4096 ] && [ "$clients" -le 64 ] || usage
+[ -x "$program" ] || { echo "no proved program stands: run 'rt ci' first" >&2; exit 1; }
+command -v python3 > /dev/null || { echo "python3 is needed" >&2; exit 1; }
+exec python3 - "$program" "$size" "$clients" "$repeats" <<'P'
+import json, os, subprocess, sys, tempfile, time
+
+program = sys.argv[1]
+size, clients, repeats = map(int, sys.argv[2:])
+
+
+def compact(value):
+    return json.dumps(value, separators=(",", ":")) + "\n"
+
+
+def scene_of(count):
+    nodes = [{"path": "node%d" % i, "props": [["health", i], ["label", "node %d" % i]]} for i in range(count)]
+    return compact({"nodes": nodes, "scenes": []})
+
+
+def session_of(count):
+    """The lines of a session, and how many lines it must write."""
+    scene = {
+        "nodes": [{"path": "s", "spawner": {"under": "s", "scenes": ["p"]}}],
+        "scenes": [{"name": "p", "props": [["v", 0]], "methods": [], "syncs": [{"props": [["v", "change", True]]}]}],
+    }
+    lines = [compact(scene)] + [compact(["connect"])] * clients
+    lines += [compact(["op", 1, ["spawn", "s", "p", "n%d" % i, [["v", i]]]]) for i in range(count)]
+    lines += [compact(["rel", 1, 2 + c]) for _ in range(count) for c in range(clients)]
+    lines += [compact(["report", 2 + c]) for c in range(clients)]
+    connects = 2 * clients
+    spawns = count * (1 + clients)
+    deliveries = count * clients
+    reports = clients * (3 + 2 * count)
+    return "".join(lines), connects + spawns + deliveries + reports
+
+
+def run(text, lines, folder):
+    """The seconds of the fastest of some runs, and the peak memory in KB. Each run must write so many lines."""
+    source, sink = os.path.join(folder, "in"), os.path.join(folder, "out")
+    with open(source, "w") as file:
+        file.write(text)
+    best, peak = None, 0
+    for _ in range(repeats):
+        with open(source) as stdin, open(sink, "w") as stdout:
+            begin = time.monotonic()
+            child = subprocess.Popen([program, "replay"], stdin=stdin, stdout=stdout)
+            _, status, usage = os.wait4(child.pid, 0)
+            spent = time.monotonic() - begin
+        code = os.waitstatus_to_exitcode(status)
+        if code != 0:
+            sys.exit("the program ended with %d" % code)
+        with open(sink) as file:
+            written = file.read().splitlines()
+        if len(written) != lines:
+            sys.exit("%d lines were written, not %d" % (len(written), lines))
+        if any('"refused"' in line or '"fault"' in line for line in written):
+            sys.exit("an event was refused, or a packet was a fault")
+        best = spent if best is None else min(best, spent)
+        peak = max(peak, usage.ru_maxrss)
+    return best, peak
+
+
+def measure(what, make, folder, idle):
+    spent = []
+    for count in (size // 2, size):
+        text, lines = make(count)
+        seconds, peak = run(text, lines, folder)
+        spent.append(max(seconds - idle, 1e-6))
+        print("%s of %d: %.3f s (%.1f MB of input, %d lines of output, peak memory %d KB)" % (what, count, spent[-1], len(text) / 1e6, lines, peak), flush=True)
+    if spent[0] < 0.001:
+        print("    too short for a ratio", flush=True)
+    else:
+        print("    ratio of the times: %.2f (sizes %.2f)" % (spent[1] / spent[0], size / (size // 2)), flush=True)
+    return spent[1]
+
+
+with tempfile.TemporaryDirectory() as folder:
+    idle, _ = run(scene_of(1), 0, folder)
+    print("starting, and a scene of one node: %.3f s" % idle, flush=True)
+    measure("scene with nodes", lambda count: (scene_of(count), 0), folder, idle)
+    session = measure("session with %d clients and spawns" % clients, session_of, folder, idle)
+    print("microseconds a spawn and client: %.2f" % (session / (size * clients) * 1e6))
+P

@@ -1,0 +1,3 @@
+pub mod FirstFeed
+pub mod Reading
+pub mod Runs

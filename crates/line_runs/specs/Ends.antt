@@ -1,0 +1,35 @@
+-- How a run may end, also where its source and sink tell nothing.
+use Rattle.std.specs.Prelude.{ℕ}
+use Rattle.session_text.specs.Causes.{Rose}
+use Rattle.session_text.specs.declared.lines.ReadStop.{ReadStop}
+use Rattle.session_text.specs.declared.lines.ReadStop.TheVariants as read
+use Rattle.session_text.specs.declared.status.LineWhy.{LineWhy}
+use Rattle.session_text.specs.declared.status.Status.{Status}
+use Rattle.session_text.specs.declared.status.Status.TheVariants as status
+
+-- how a run ends where a line can't be read
+abbrev pub read_end : ReadStop → Status
+read_end read.Failed = status.ReadFault
+read_end read.OutOfMemory = status.OutOfMemory
+
+-- How a run may end, by the reasons for which a line may stop it and by how it ends without any line: a fault comes only where the count of the source or of the sink rose from the first number to the second.
+abbrev pub MayEnd : (LineWhy → Type 0) → ℕ → ℕ → ℕ → ℕ → Status → Type 0
+MayEnd reasons source later sink after status.Done = Unit {0}
+MayEnd reasons source later sink after (status.BadLine n reason) = reasons reason
+MayEnd reasons source later sink after (status.LineLong n) = Unit {0}
+MayEnd reasons source later sink after status.InputLong = Unit {0}
+MayEnd reasons source later sink after status.ReadFault = Rose source later
+MayEnd reasons source later sink after status.WriteFault = Rose sink after
+MayEnd reasons source later sink after status.OutOfMemory = Unit {0}
+MayEnd reasons source later sink after s = ⊥
+
+-- a write failed
+abbrev pub IsWriteFault : ℕ → ℕ → Status → Type 0
+IsWriteFault sink after status.WriteFault = Rose sink after
+IsWriteFault sink after s = ⊥
+
+-- a line or the input is too long
+abbrev pub IsLong : Status → Type 0
+IsLong (status.LineLong n) = Unit {0}
+IsLong status.InputLong = Unit {0}
+IsLong s = ⊥

@@ -1,0 +1,113 @@
+-- What the lines of a session make, and what each line writes. Lines are listed newest first.
+use Rattle.std.specs.Prelude.{◌≡◌, ℕ, ℤ, List, [], ◌∷◌, ◌++◌, Option, Some, None, Result, Ok, Err, if◌then◌else◌}
+use Rattle.scene_model.specs.declared.scene.Scene.{Scene}
+use Rattle.scene_model.specs.declared.world.WorldEvent.{WorldEvent}
+use Rattle.scene_model.specs.declared.world.WorldNo.TheVariants as refusal
+use Rattle.scene_model.specs.declared.world.WorldOutcome.TheVariants as answers
+use Rattle.peer_core.specs.Steps.{packet_form}
+use Rattle.world_model.specs.World.{World, world, world_answer, happened, is_in}
+use Rattle.world_model.specs.Replicas.{reported}
+use Rattle.session_text.specs.Outcomes.{outcome_lines}
+use Rattle.session_text.specs.Reports.{report_lines}
+use Rattle.session_text.specs.declared.status.LineWhy.{LineWhy}
+use Rattle.session_text.specs.declared.status.LineWhy.TheVariants as why
+use Rattle.session_text.specs.declared.stop.LineStop.{LineStop}
+use Rattle.session_text.specs.declared.stop.LineStop.TheVariants as stop
+use Rattle.session_text.specs.declared.status.Status.{Status}
+use Rattle.session_text.specs.declared.status.Status.TheVariants as status
+use Rattle.line_text.specs.declared.sessions.SessionLine.{SessionLine}
+use Rattle.line_text.specs.declared.sessions.SessionLine.TheVariants as line
+use Rattle.line_text.specs.Scenes.{scene_line_read}
+use Rattle.line_text.specs.Sessions.{session_line_read}
+use Rattle.line_runs.specs.Output.{Telling, next_number}
+use Rattle.mp_world.specs.Steps.{Parts, scene_of}
+use Rattle.mp_world.specs.Stands.{StandsForScript}
+
+-- a session: its scene, and what happened in it, newest first
+pub record Session : Type 0 where
+  pub scene : Scene
+  pub script : List WorldEvent
+
+-- the world that a session made
+abbrev pub world_of : Session → World
+world_of s = world packet_form s.scene s.script
+
+-- a session with an event, where it happened
+abbrev pub with_event : Session → WorldEvent → Session
+with_event s e = if happened (world_answer packet_form s.scene (world_of s) e) then record s { script = e ∷ s.script } else s
+
+-- a session after a line
+abbrev pub after_line : Session → Result SessionLine LineWhy → Session
+after_line s (Ok (line.Event e)) = with_event s e
+after_line s r = s
+
+-- the session that a scene line begins
+abbrev pub begun : Result Scene LineWhy → Option Session
+begun (Ok s) = Some (record { scene = s; script = [] })
+begun (Err w) = None
+
+-- a session after one line more; the first line is the scene
+abbrev pub one_line_more : Option Session → List ℕ → Option Session
+one_line_more None l = begun (scene_line_read l)
+one_line_more (Some s) l = Some (after_line s (session_line_read l))
+
+-- the session that lines make
+abbrev pub session_of : List (List ℕ) → Option Session
+session_of [] = None
+session_of (l ∷ ls) = one_line_more (session_of ls) l
+
+-- what line n writes that asks for a report
+abbrev pub report_text : ℕ → Session → ℤ → List ℕ
+report_text n s p =
+    if is_in (world_of s) p then outcome_lines n (answers.Done None []) ++ report_lines p (reported packet_form s.scene (world_of s) p)
+    else outcome_lines n (answers.Refused refusal.NoPeer)
+
+-- what line n writes
+abbrev pub line_text : ℕ → Session → SessionLine → List ℕ
+line_text n s (line.Event e) = outcome_lines n (world_answer packet_form s.scene (world_of s) e)
+line_text n s (line.Report p) = report_text n s p
+
+-- what line n of a session gives, by what it reads as
+abbrev pub line_given : ℕ → Session → Result SessionLine LineWhy → Result (List ℕ) LineWhy
+line_given n s (Ok l) = Ok (line_text n s l)
+line_given n s (Err w) = Err w
+
+-- what a scene line gives: nothing is written
+abbrev pub scene_given : Result Scene LineWhy → Result (List ℕ) LineWhy
+scene_given (Ok s) = Ok []
+scene_given (Err w) = Err w
+
+-- what line n gives, by the session so far
+abbrev pub given : ℕ → Option Session → List ℕ → Result (List ℕ) LineWhy
+given n None l = scene_given (scene_line_read l)
+given n (Some s) l = line_given n s (session_line_read l)
+
+-- what a line gives after the lines before it
+abbrev pub replay_told : Telling
+replay_told ls l = given (next_number ls) (session_of ls) l
+
+-- an input without any byte has no scene line
+abbrev pub no_scene : Status
+no_scene = status.BadLine 1 why.Json
+
+-- a world is the one that a session made
+pub record HoldsIn (s : Session) (v : Parts) : Type 0 where
+  pub scene : scene_of v ≡ s.scene
+  pub stands : StandsForScript v s.script
+
+-- what is kept of a session
+abbrev pub Holds : Option Session → Option Parts → Type 0
+Holds None None = Unit {0}
+Holds None (Some v) = ⊥
+Holds (Some s) None = ⊥
+Holds (Some s) (Some v) = HoldsIn s v
+
+-- a world holds what these lines made
+abbrev pub Took : Option Parts → List (List ℕ) → Type 0
+Took w ls = Holds (session_of ls) w
+
+-- the world that a scene line begins
+abbrev pub Begins : Result Scene LineWhy → Result Parts LineStop → Type 0
+Begins read (Ok v) = (s : Scene) × (read ≡ Ok s) × HoldsIn (record { scene = s; script = [] }) v
+Begins read (Err (stop.LineBad w)) = read ≡ Err w
+Begins read (Err stop.OutOfMemory) = Unit {0}

@@ -1,0 +1,121 @@
+//! Packets that are delivered.
+ghost use Rattle.std.specs.Prelude.{◌≡◌, ℕ, Some, ◌<◌, ◌&&◌, ◌||◌, ◌+◌, not, true, false, length, option_map, slice_get, IfOk, OnOk, MatchOption};
+ghost use Rattle.std.specs.Ordering.{int_eq};
+ghost use Rattle.peer_model.specs.Heard.{server as server_id};
+ghost use Rattle.peer_core.specs.Kept.{Kept};
+ghost use Rattle.world_model.specs.World.{received};
+ghost use Rattle.mp_world.specs.Steps.{Parts as PartsOf, deliver_down, deliver_up, delivers_at, has_peer, live_parts, number_of, one_more, place_of as place_with, rel_made, with_client};
+
+use crate::client::{Client, client_place};
+use crate::steps::{SERVER, is_server, take_at_client, take_at_server};
+use crate::way::take_next;
+use gd_variant::OutOfMemory;
+use peer_core::Peer;
+use scene_model::{Event, WorldNo, WorldOutcome};
+use std::alloc::Global;
+
+/// Whether a peer is there.
+fn is_there(clients: &Vec<Client>, peer: &i32) -> bool
+    ensures { (k : Kept) → result ≡ has_peer (live_parts k clients.now.items) peer.now }
+{
+    is_server(peer) || client_place(clients, peer).is_some()
+}
+
+fn are_there(clients: &Vec<Client>, from: &i32, to: &i32) -> bool
+    ensures { (k : Kept) → result ≡ (has_peer (live_parts k clients.now.items) from.now && has_peer (live_parts k clients.now.items) to.now) }
+{
+    is_there(clients, from) && is_there(clients, to)
+}
+
+/// Whether there is a link between these peers: one of them is the server, and not both.
+fn is_link(from: &i32, to: &i32) -> bool
+    ensures { result ≡ not (int_eq from.now to.now || (not (int_eq from.now server_id) && not (int_eq to.now server_id))) }
+{
+    *from != *to && (is_server(from) || is_server(to))
+}
+
+/// The next packet for a client.
+fn take_down(client: &mut Client, alloc: Global, number: &i32) -> Result<WorldOutcome, OutOfMemory>
+    ensures { (v : PartsOf) (i : ℕ) → slice_get v.clients i ≡ Some client.old → number.now ≡ number_of i → IfOk result (λ o. record { outcome = o; parts = with_client v i client.new } ≡ deliver_down v i client.old (slice_get client.old.down.sent client.old.down.delivered)) }
+{
+    match take_next(&mut client.down, alloc, &SERVER)? {
+        Some(event) => take_at_client(client, alloc, number, event),
+        None => Ok(WorldOutcome::Refused(WorldNo::NothingInFlight)),
+    }
+}
+
+/// The next packet from a client.
+fn take_up(client: &mut Client, alloc: Global, number: &i32) -> Result<Option<Event>, OutOfMemory>
+    ensures next { IfOk result (λ o. o ≡ option_map (received number.now) (slice_get client.old.up.sent client.old.up.delivered)) }
+    ensures client { IfOk result (λ o. MatchOption o (client.new ≡ client.old) (λ _. client.new ≡ record client.old { up = one_more client.old.up })) }
+{
+    take_next(&mut client.up, alloc, number)
+}
+
+/// Delivers the next packet of the server to a client.
+fn deliver_to_client(
+    clients: &mut Vec<Client>,
+    alloc: Global,
+    number: &i32,
+) -> Result<WorldOutcome, OutOfMemory>
+    ensures { (k : Kept) → IfOk result (λ o. record { outcome = o; parts = live_parts k clients.new.items } ≡ delivers_at (live_parts k clients.old.items) true (place_with number.now)) }
+{
+    match client_place(clients, number) {
+        Some(place) => take_down(&mut clients[place], alloc, number),
+        None => Ok(WorldOutcome::Refused(WorldNo::NoPeer)),
+    }
+}
+
+/// Delivers the next packet of the client at a place to the server.
+fn deliver_from(
+    server: &mut Peer,
+    clients: &mut Vec<Client>,
+    alloc: Global,
+    number: &i32,
+    place: usize,
+) -> Result<WorldOutcome, OutOfMemory>
+    requires place { place_with number.now ≡ Some place }
+    requires within { place < length clients.old.items }
+    ensures { IfOk result (λ o. record { outcome = o; parts = live_parts server.new clients.new.items } ≡ delivers_at (live_parts server.old clients.old.items) false (Some place)) }
+{
+    match take_up(&mut clients[place], alloc, number)? {
+        Some(event) => take_at_server(server, clients, alloc, event),
+        None => Ok(WorldOutcome::Refused(WorldNo::NothingInFlight)),
+    }
+}
+
+/// Delivers the next packet of a client to the server.
+fn deliver_to_server(
+    server: &mut Peer,
+    clients: &mut Vec<Client>,
+    alloc: Global,
+    number: &i32,
+) -> Result<WorldOutcome, OutOfMemory>
+    ensures { IfOk result (λ o. record { outcome = o; parts = live_parts server.new clients.new.items } ≡ delivers_at (live_parts server.old clients.old.items) false (place_with number.now)) }
+{
+    match client_place(clients, number) {
+        Some(place) => deliver_from(server, clients, alloc, number, place),
+        None => Ok(WorldOutcome::Refused(WorldNo::NoPeer)),
+    }
+}
+
+/// Delivers the next packet of a link, where there is one.
+pub fn deliver(
+    server: &mut Peer,
+    clients: &mut Vec<Client>,
+    alloc: Global,
+    from: &i32,
+    to: &i32,
+) -> Result<WorldOutcome, OutOfMemory>
+    ensures { IfOk result (λ o. record { outcome = o; parts = live_parts server.new clients.new.items } ≡ rel_made (live_parts server.old clients.old.items) from.now to.now) }
+{
+    if !are_there(clients, from, to) {
+        Ok(WorldOutcome::Refused(WorldNo::NoPeer))
+    } else if !is_link(from, to) {
+        Ok(WorldOutcome::Refused(WorldNo::NotLink))
+    } else if is_server(from) {
+        deliver_to_client(clients, alloc, to)
+    } else {
+        deliver_to_server(server, clients, alloc, from)
+    }
+}

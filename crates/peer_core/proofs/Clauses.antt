@@ -1,0 +1,42 @@
+-- What the clauses of a peer's calls come to: a new peer, a step by what it took, and a report.
+use Rattle.std.proofs.Common.{◌≡◌, true, false, List, [], ◌∷◌, sym, ap, ap₂, ◌∙◌, subst, map}
+use Rattle.scene_model.specs.declared.event.Event.{Event}
+use Rattle.scene_model.specs.declared.outcome.Outcome.{Outcome}
+use Rattle.scene_model.specs.Valid.{IsValidScene}
+use Rattle.peer_model.specs.Heard.{Heard}
+use Rattle.peer_model.specs.View.{report_of, row_of}
+use Rattle.peer_model.specs.Bytes.{PacketForm}
+use Rattle.headless_tree.specs.Nodes.{fixed_nodes}
+use Rattle.peer_laws.proofs.TreeStart.{tree_start}
+use Rattle.peer_core.specs.Kept.{Kept}
+use Rattle.peer_core.specs.Stands.{HasParts, StandsFor, is_answered, built_answer, is_built_event}
+use Rattle.peer_core.specs.Steps.{Taken, taken, is_done}
+use Rattle.peer_core.proofs.Whole.{taken_right, kept_still}
+
+-- a new peer stands for no events
+pub start_stands : (form : PacketForm) (k : Kept) → k.spent ≡ false → IsValidScene k.who.scene → k.come ≡ [] → k.up ≡ [] → k.nodes ≡ fixed_nodes k.who.scene → k.next ≡ 1 → k.rows ≡ [] → StandsFor form k []
+start_stands form k live valid come up nodes next rows = record {
+  live = live;
+  valid = valid;
+  accepted = tt;
+  come = come;
+  up = up;
+  nodes = nodes ∙ sym (tree_start k.who valid);
+  next = next;
+  rows = rows;
+}
+
+-- a step that made this outcome and keeps this
+
+pub step_answers : (form : PacketForm) (k j : Kept) (es : List Event) (e : Event) (o : Outcome) → record { outcome = o; kept = j } ≡ taken form k e → StandsFor form k es → is_built_event e ≡ true → o ≡ built_answer form k.who es e
+step_answers form k j es e o made stands built = ap (λ (t : Taken). t.outcome) made ∙ (taken_right form k es e stands built).answers
+
+pub step_stands : (form : PacketForm) (k j : Kept) (es : List Event) (e : Event) (o : Outcome) → record { outcome = o; kept = j } ≡ taken form k e → StandsFor form k es → is_built_event e ≡ true → is_answered form k.who es e ≡ true → StandsFor form j (e ∷ es)
+step_stands form k j es e o made stands built given = subst (λ (t : Taken). StandsFor form t.kept (e ∷ es)) (sym made) ((taken_right form k es e stands built).stands given)
+
+pub step_unchanged : (form : PacketForm) (k j : Kept) (e : Event) (o : Outcome) → record { outcome = o; kept = j } ≡ taken form k e → is_done o ≡ false → j ≡ k
+step_unchanged form k j e o made h = ap (λ (t : Taken). t.kept) made ∙ kept_still form k e (sym (ap (λ (t : Taken). is_done t.outcome) made) ∙ h)
+
+-- a report tells who is up and how every node stands
+pub reported : (k : Kept) (es : List Heard) → HasParts k es → record { peers = k.up; rows = map row_of k.nodes } ≡ report_of k.who es
+reported k es h = ap₂ (λ us ns. record { peers = us; rows = map row_of ns }) h.up h.nodes

@@ -1,0 +1,118 @@
+-- What is kept judges an event as the definitions do.
+use Rattle.std.proofs.Common.{◌≡◌, ℕ, suc, ◌+◌, ℤ, pos, Bool, true, false, cond, not, ◌&&◌, ◌||◌, List, [], ◌∷◌, ◌++◌, refl, sym, ap, ap₂, ◌∙◌, length, map, filter, reverse, is_some, Option, Some, None}
+use Rattle.std.specs.Prelude.{flat_map, is_none, nat_le, nat_lt, int_lt, if◌then◌else◌}
+use Rattle.std.specs.List.{list_any}
+use Rattle.std.specs.Ordering.{int_eq}
+use Rattle.std.proofs.lemmas.Grind.{reverse_onto}
+use Rattle.std.proofs.lemmas.List.Folds.{list_any-append}
+use Rattle.std.proofs.lemmas.List.{length-map}
+use Rattle.gd_variant.specs.Words.{text_eq, has_int, some_is, when, first_of}
+use Rattle.gd_variant.specs.declared.value.Variant.{Variant}
+use Rattle.scene_model.specs.declared.scene.SpawnerDef.{SpawnerDef}
+use Rattle.scene_model.specs.declared.spawn.SpawnMsg.{SpawnMsg}
+use Rattle.scene_model.specs.declared.event.SpawnOp.{SpawnOp}
+use Rattle.scene_model.specs.declared.outcome.Refusal.{Refusal}
+use Rattle.scene_model.specs.declared.outcome.Refusal.TheVariants.{NoNode, NoSpawner, NotAuthority, NoScene, BadName, NameTaken, SpawnLimit, NodesFull, NetIdsFull, ValueTooLong, BadPeer, PeersFull, NoPeer}
+use Rattle.scene_model.specs.declared.outcome.Fault.TheVariants as fault
+use Rattle.scene_model.specs.Paths.{is_name}
+use Rattle.scene_model.specs.Lookup.{spawner_at}
+use Rattle.peer_model.specs.Heard.{Who, Heard, is_server, server}
+use Rattle.peer_model.specs.Peers.{is_up, was_up, peers_come}
+use Rattle.peer_model.specs.Rows.{OwnRow, own_rows, next_number, spawned_path, spawned_scene, syncs_at}
+use Rattle.peer_model.specs.Values.{scene_made, props_in}
+use Rattle.peer_model.specs.Updates.{Live, live_at}
+use Rattle.peer_model.specs.View.{tree_of, view}
+use Rattle.peer_model.specs.Refusals.{most_rows, most_net_id, most_clients, owns, may_make, setting_refusals, argument_fits, limit_reached, spawn_refusal, set_refusal, up_refusal, down_refusal}
+use Rattle.peer_model.specs.Faults.{link_fault, spawn_fault}
+use Rattle.peer_model.proofs.Links.{was_up_come}
+use Rattle.peer_laws.specs.Facts.{rows_under}
+use Rattle.peer_laws.proofs.Ups.{has_up}
+use Rattle.peer_core.specs.Kept.{Kept, kept_row}
+use Rattle.peer_core.specs.Judged.{up_judged, down_judged, rows_of_spawner, is_at_limit, spawn_judged, set_judged, link_judged, shown_judged}
+use Rattle.peer_core.specs.Stands.{HasParts}
+
+-- links
+
+or_comm : (a b : Bool) → (a || b) ≡ (b || a)
+or_comm true true = refl
+or_comm true false = refl
+or_comm false true = refl
+or_comm false false = refl
+
+or_none : (a : Bool) → (a || false) ≡ a
+or_none true = refl
+or_none false = refl
+
+-- a list and its reverse have the same elements
+any-reverse : {X : Type 0} (p : X → Bool) (xs : List X) → list_any p (reverse xs) ≡ list_any p xs
+any-reverse p [] = refl
+any-reverse p (x ∷ xs) =
+    ap (list_any p) (reverse_onto xs x [])
+    ∙ list_any-append p (reverse xs) (x ∷ [])
+    ∙ ap₂ (λ a b. a || b) (any-reverse p xs) (or_none (p x))
+    ∙ or_comm (list_any p xs) (p x)
+
+-- a peer came up before where it is among those that came
+came_is : (k : Kept) (es : List Heard) → HasParts k es → (b : ℤ) → has_int b k.come ≡ was_up es b
+came_is k es h b = ap (has_int b) h.come ∙ any-reverse (int_eq b) (peers_come es) ∙ sym (was_up_come es b)
+
+up_is : (k : Kept) (es : List Heard) → HasParts k es → (b : ℤ) → has_int b k.up ≡ is_up es b
+up_is k es h b = ap (has_int b) h.up ∙ has_up es b
+
+pub up_judged_is : (k : Kept) (es : List Heard) → HasParts k es → (b : ℤ) → up_judged k.who k.come k.up b ≡ up_refusal k.who es b
+up_judged_is k es h b = ap₂ (λ (c : Bool) (us : List ℤ). first_of (
+    when (int_eq b k.who.id || c || (if is_server k.who then int_lt b (pos 2) else not (int_eq b server))) BadPeer
+    ∷ when (is_server k.who && nat_le most_clients (length us)) PeersFull
+    ∷ [])) (came_is k es h b) h.up
+
+pub down_judged_is : (k : Kept) (es : List Heard) → HasParts k es → (b : ℤ) → down_judged k.up b ≡ down_refusal es b
+down_judged_is k es h b = ap (λ c. when (not c) NoPeer) (up_is k es h b)
+
+pub link_judged_is : (k : Kept) (es : List Heard) → HasParts k es → (from : ℤ) → link_judged k.who k.up from ≡ link_fault k.who es from
+link_judged_is k es h from = ap (λ c. when (not c || (not (is_server k.who) && not (int_eq from server))) (fault.UnknownPeer from)) (up_is k es h from)
+
+-- spawns
+
+-- as many rows of a spawner are kept as there are
+spawner_rows : (who : Who) (spawner : List ℕ) (rows : List OwnRow) → length (rows_of_spawner spawner (map (kept_row who) rows)) ≡ length (filter (λ (r : OwnRow). text_eq r.made_by.spawner spawner) rows)
+spawner_rows who spawner [] = refl
+spawner_rows who spawner (r ∷ rows) = elim (text_eq r.made_by.spawner spawner) as (λ b. length (cond b (kept_row who r ∷ rows_of_spawner spawner (map (kept_row who) rows)) (rows_of_spawner spawner (map (kept_row who) rows))) ≡ length (cond b (r ∷ filter (λ (q : OwnRow). text_eq q.made_by.spawner spawner) rows) (filter (λ (q : OwnRow). text_eq q.made_by.spawner spawner) rows))) [
+  | true ↦ ap suc (spawner_rows who spawner rows)
+  | false ↦ spawner_rows who spawner rows
+]
+
+limit_is : (who : Who) (es : List Heard) (spawner : List ℕ) (d : Option SpawnerDef) → some_is (is_at_limit (map (kept_row who) (own_rows who es)) spawner) d ≡ some_is (limit_reached who es spawner) d
+limit_is who es spawner None = refl
+limit_is who es spawner (Some d) = ap (λ n. nat_lt 0 d.limit && nat_le d.limit n) (spawner_rows who spawner (own_rows who es))
+
+-- why a spawn is refused, by whether its spawner is full and how many rows there are
+abbrev spawn_rows : Who → List Live → Bool → ℕ → ℕ → SpawnOp → Option Refusal
+spawn_rows who nodes full count next o = first_of (
+    when (is_none (live_at nodes o.spawner)) NoNode
+    ∷ when (is_none (spawner_at who.scene o.spawner)) NoSpawner
+    ∷ when (not (owns who (live_at nodes o.spawner))) NotAuthority
+    ∷ when (not (some_is (may_make o) (spawner_at who.scene o.spawner))) NoScene
+    ∷ when (not (is_name o.name)) BadName
+    ∷ when (is_some (live_at nodes (spawned_path who o))) NameTaken
+    ∷ when full SpawnLimit
+    ∷ when (nat_le most_rows count) NodesFull
+    ∷ when (nat_lt most_net_id (next + length (syncs_at who.scene (spawned_scene who o)))) NetIdsFull
+    ∷ flat_map (setting_refusals (props_in (scene_made who o))) o.sets ++ when (not (argument_fits o.arg)) ValueTooLong ∷ [])
+
+pub spawn_judged_is : (k : Kept) (es : List Heard) → HasParts k es → (o : SpawnOp) → spawn_judged k.who k.nodes k.rows k.next o ≡ spawn_refusal k.who es o
+spawn_judged_is k es h o =
+    ap₂ (λ ns rs. spawn_judged k.who ns rs k.next o) h.nodes h.rows
+    ∙ ap (λ n. spawn_judged k.who (tree_of k.who es) (map (kept_row k.who) (own_rows k.who es)) n o) h.next
+    ∙ ap₂ (λ full count. spawn_rows k.who (tree_of k.who es) full count (next_number k.who es) o) (limit_is k.who es o.spawner (spawner_at k.who.scene o.spawner)) (length-map (own_rows k.who es) (kept_row k.who))
+
+-- assignments
+
+pub set_judged_is : (k : Kept) (es : List Heard) → HasParts k es → (path prop : List ℕ) (value : Variant) → set_judged k.who k.nodes path prop value ≡ set_refusal k.who es path prop value
+set_judged_is k es h path prop value = ap (λ ns. set_judged k.who ns path prop value) h.nodes
+
+-- received spawns
+
+-- a received spawn is judged beside the rows that its sender has in the tree
+pub shown_judged_is : (k : Kept) (es : List Heard) → HasParts k es → (c : ℤ) (m : SpawnMsg) → rows_under c (tree_of k.who es) ≡ (view k.who es c).rows
+    → shown_judged k.who k.nodes c m ≡ spawn_fault k.who es c m (view k.who es c).rows
+shown_judged_is k es h c m under = ap (λ ns. shown_judged k.who ns c m) h.nodes ∙ ap (spawn_fault k.who es c m) under

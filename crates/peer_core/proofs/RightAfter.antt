@@ -1,0 +1,141 @@
+-- What is right of all that a peer keeps is right after a received spawn.
+use Rattle.std.proofs.Common.{◌≡◌, ℕ, ℤ, Bool, true, false, cond, not, ◌&&◌, ◌||◌, List, [], ◌∷◌, refl, sym, ap, subst, ◌∙◌, map, Option, Some, None, nat_le, nat_lt, arith}
+use Rattle.std.specs.Prelude.{zip, option_and_then}
+use Rattle.std.specs.List.{list_all, list_any}
+use Rattle.std.specs.Ordering.{int_eq}
+use Rattle.std.proofs.lemmas.Bool.Decides.{nat_tests}
+use Rattle.std.proofs.lemmas.Bool.{and_parts, and_from, or_parts}
+use Rattle.std.proofs.lemmas.List.Folds.{list_all-map}
+use Rattle.gd_variant.specs.Words.{text_eq, has_int, put_by}
+use Rattle.gd_variant.specs.Size.{value_size}
+use Rattle.gd_variant.specs.Sound.{is_sound}
+use Rattle.gd_variant.specs.declared.value.Variant.{Variant}
+use Rattle.scene_model.specs.declared.scene.Scene.{Scene}
+use Rattle.scene_model.specs.declared.scene.SceneDef.{SceneDef}
+use Rattle.scene_model.specs.declared.scene.Prop.{Prop}
+use Rattle.scene_model.specs.declared.spawn.SpawnMsg.{SpawnMsg}
+use Rattle.scene_model.specs.Lookup.{scene_at}
+use Rattle.scene_model.specs.Valid.{IsValidScene, scene_why, value_long}
+use Rattle.peer_model.specs.Heard.{Who}
+use Rattle.peer_model.specs.Rows.{syncs_at}
+use Rattle.peer_model.specs.Values.{props_in}
+use Rattle.peer_model.specs.Updates.{Live, assign, assign_all, assign_argument, custom_prop, shown_node, shown_place, shown_props, shown_spawn_props}
+use Rattle.peer_model.specs.View.{fits}
+use Rattle.peer_model.specs.Refusals.{argument_fits}
+use Rattle.headless_tree.specs.Nodes.{TreeOf, is_spawned, is_row_of, row_before}
+use Rattle.headless_tree.proofs.Numbered.{all_at}
+use Rattle.peer_laws.proofs.Tests.{not_false}
+use Rattle.peer_laws.proofs.Each.{all_weaker, all-put_by, all_both, all_has}
+use Rattle.peer_laws.proofs.Numbers.{int_is}
+use Rattle.peer_laws.proofs.Scenes.{all_right, right_def, scenes_right, shown_is_placed}
+use Rattle.peer_core.specs.declared.links.Link.{Link}
+use Rattle.peer_core.specs.declared.rows.SpawnedRow.{SpawnedRow}
+use Rattle.peer_core.specs.Links.{peers_of}
+use Rattle.peer_core.specs.Rights.{AreRight, is_right_value, are_right, has_right_values, is_known, is_before, has_come}
+use Rattle.peer_core.specs.Arrivals.{is_sound_argument, is_sound_spawn, with_row}
+use Rattle.peer_core.proofs.Admitted.{IsAdmitted, values_short, argument_short}
+use Rattle.peer_core.proofs.Counted.{row_peer, still_counted}
+
+-- values
+
+short_from : (v : Variant) → nat_lt 65536 (value_size v) ≡ false → fits v ≡ true
+short_from v h = sized (value_size v) h
+  where
+    sized : (n : ℕ) → nat_lt 65536 n ≡ false → nat_le n 65536 ≡ true
+    sized n h = grind (arith, nat_tests)
+
+default_right : (p : Prop) → value_long p ≡ false → is_right_value p.value ≡ true
+default_right p h =
+    let parts = or_parts (not (is_sound p.value)) (nat_lt 65536 (value_size p.value)) h in
+    and_from (is_sound p.value) (fits p.value) (not_false (is_sound p.value) parts.0) (short_from p.value parts.1)
+
+defaults_right : (props : List Prop) → list_any value_long props ≡ false → are_right props ≡ true
+defaults_right [] h = refl
+defaults_right (p ∷ ps) h =
+    let parts = or_parts (value_long p) (list_any value_long ps) h in
+    and_from (is_right_value p.value) (are_right ps) (default_right p parts.0) (defaults_right ps parts.1)
+
+-- the defaults of a scene are right
+pub place_right : (s : Scene) → IsValidScene s → (place : Option ℕ) → are_right (props_in (option_and_then (scene_at s) place)) ≡ true
+place_right s v None = refl
+place_right s v (Some place) = step (scene_at s place) refl
+  where
+    step : (o : Option SceneDef) → scene_at s place ≡ o → are_right (props_in o) ≡ true
+    step None e = refl
+    step (Some d) e = all_at (λ (d : SceneDef). are_right d.props) s.scenes place d e (all_right scene_why (λ (d : SceneDef). are_right d.props) (λ earlier d h. defaults_right d.props (right_def earlier d h).short) [] s.scenes (scenes_right s v))
+
+-- an assignment of a right value keeps properties right
+pub assign_right : (name : List ℕ) (value : Variant) → is_right_value value ≡ true → (props : List Prop) → are_right props ≡ true → are_right (assign name value props) ≡ true
+assign_right name value right [] h = refl
+assign_right name value right (p ∷ ps) h =
+    let parts = and_parts (is_right_value p.value) (are_right ps) h in
+    and_from _ (are_right (assign name value ps)) (step (text_eq p.name name) parts.0) (assign_right name value right ps parts.1)
+  where
+    step : (b : Bool) → is_right_value p.value ≡ true → is_right_value (cond b (record p { value = value }) p).value ≡ true
+    step true k = right
+    step false k = k
+
+pub assign_all_right : (names : List (List ℕ)) (values : List Variant) (props : List Prop) → list_all is_right_value values ≡ true → are_right props ≡ true → are_right (assign_all (zip names values) props) ≡ true
+assign_all_right [] values props right h = h
+assign_all_right (name ∷ names) [] props right h = h
+assign_all_right (name ∷ names) (value ∷ values) props right h =
+    let parts = and_parts (is_right_value value) (list_all is_right_value values) right in
+    assign_all_right names values (assign name value props) parts.1 (assign_right name value parts.0 props h)
+
+pub argument_right : (name : Option (List ℕ)) (arg : Option Variant) (props : List Prop) → is_sound_argument arg ≡ true → argument_fits arg ≡ true → are_right props ≡ true → are_right (assign_argument name arg props) ≡ true
+argument_right (Some name) (Some value) props sound short h = assign_right name value (and_from (is_sound value) (fits value) sound short) props h
+argument_right (Some name) None props sound short h = h
+argument_right None arg props sound short h = h
+
+-- the node of a received spawn has right values
+pub shown_right : (who : Who) → IsValidScene who.scene → (nodes : List Live) (c : ℤ) (m : SpawnMsg) → IsAdmitted who nodes c m → is_sound_spawn m ≡ true → has_right_values (shown_node who.scene c m) ≡ true
+shown_right who v nodes c m a h =
+    let s = who.scene in
+    let defs = syncs_at s (shown_place s m) in
+    let sound = and_parts (is_sound_argument m.arg) (list_all is_sound m.values) h in
+    assign_all_right (shown_spawn_props s m) m.values (assign_argument (custom_prop s m.spawner) m.arg (shown_props s m))
+    (all_both is_sound fits m.values sound.1 (values_short defs m a.values))
+    (argument_right (custom_prop s m.spawner) m.arg (shown_props s m) sound.0 (argument_short defs m a.values) (place_right s v (shown_place s m)))
+
+-- peers
+
+come_has : (come : List ℤ) (links : List Link) (c : ℤ) → list_all (has_come come) links ≡ true → has_int c (peers_of links) ≡ true → has_int c come ≡ true
+come_has come links c h up = all_has (λ z. has_int z come) c (peers_of links) (list_all-map (λ z. has_int z come) (λ (l : Link). l.peer) links ∙ h) up
+
+foreign : (come : List ℤ) (id c : ℤ) → has_int id come ≡ false → has_int c come ≡ true → int_eq c id ≡ false
+foreign come id c h k = step (int_eq c id) refl
+  where
+    step : (b : Bool) → int_eq c id ≡ b → b ≡ false
+    step true e = let same = ap (λ z. has_int z come) (int_is c id e) in absurd (let twice : true ≡ false = sym k ∙ same ∙ h in cc twice)
+    step false e = refl
+
+or_last : (a b c : Bool) → c ≡ true → (a || (b || c)) ≡ true
+or_last true b c h = refl
+or_last false true c h = refl
+or_last false false c h = h
+
+row_is : (who : Who) → IsValidScene who.scene → (nodes : List Live) (c : ℤ) (m : SpawnMsg) → IsAdmitted who nodes c m → (b : ℤ) → is_row_of b (shown_node who.scene c m) ≡ int_eq c b
+row_is who v nodes c m a b = ap (λ placed. placed && int_eq c b) (shown_is_placed who.scene v m a.meant)
+
+pub right_after : (id : ℤ) (come : List ℤ) (links : List Link) (t : TreeOf) (next : ℕ) (rows : List SpawnedRow) (c : ℤ) (m : SpawnMsg) → AreRight id come links t next rows → has_int c (peers_of links) ≡ true
+    → IsAdmitted (record { id = id; scene = t.scene }) t.nodes c m → is_sound_spawn m ≡ true → AreRight id come (map (with_row c) links) (record t { nodes = put_by row_before (shown_node t.scene c m) t.nodes }) next rows
+right_after id come links t next rows c m h up a sound =
+    let who : Who = record { id = id; scene = t.scene } in
+    let x = shown_node t.scene c m in
+    let row = row_is who h.valid t.nodes c m a in
+    let has = come_has come links c h.came up in
+    record {
+      valid = h.valid;
+      values = all-put_by has_right_values row_before x t.nodes (shown_right who h.valid t.nodes c m a sound) h.values;
+      rows_right = h.rows_right;
+      counted = still_counted c x t.nodes links row h.counted;
+      came = list_all-map (has_come come) (with_row c) links ∙ all_weaker (has_come come) (λ l. has_come come (with_row c l)) (λ l k. ap (λ z. has_int z come) (row_peer (int_eq c l.peer) l) ∙ k) links h.came;
+      known = all-put_by (is_known id come) row_before x t.nodes (or_last (not (is_spawned x)) (int_eq c id) (has_int c come) has) h.known;
+      before = all-put_by (is_before id next) row_before x t.nodes (ap (λ b. not b || list_all (λ num. nat_lt num next) (m.net ∷ m.syncs)) (row id ∙ foreign come id c h.other has)) h.before;
+      other = h.other;
+    }
+
+-- the same, as the calls tell it
+pub right_then : (id : ℤ) (come : List ℤ) (links after : List Link) (t u : TreeOf) (next : ℕ) (rows : List SpawnedRow) (c : ℤ) (m : SpawnMsg) → AreRight id come links t next rows → has_int c (peers_of links) ≡ true
+    → IsAdmitted (record { id = id; scene = t.scene }) t.nodes c m → is_sound_spawn m ≡ true → u ≡ record t { nodes = put_by row_before (shown_node t.scene c m) t.nodes } → after ≡ map (with_row c) links → AreRight id come after u next rows
+right_then id come links after t u next rows c m h up a sound tree counted = subst (λ ls. AreRight id come ls u next rows) (sym counted) (subst (λ v. AreRight id come (map (with_row c) links) v next rows) (sym tree) (right_after id come links t next rows c m h up a sound))

@@ -1,0 +1,16 @@
+use Rattle.std.proofs.Common.{ap, ◌∙◌, length}
+use Rattle.peer_core.proofs.Admitted.{admitted, numbers_new, values_many, values_short}
+use Rattle.peer_core.proofs.Putting.{spawn_put}
+use Rattle.peer_core.proofs.receiving.put_spawn.Goals as goal
+
+pub put_node-requires-clause-new : goal.put_node-requires-clause-new
+put_node-requires-clause-new c = numbers_new c.args.from.now c.args.tree.now.nodes c.args.spawn.net c.args.spawn.syncs (admitted (record { id = c.args.from.now; scene = c.args.tree.now.scene }) c.args.tree.now.nodes c.args.from.now c.args.spawn c.requires.judged).fresh
+
+pub put_values-requires-clause-many : goal.put_values-requires-clause-many
+put_values-requires-clause-many c = ap length (c.as_slice.ensures ∙ c.requires.making.props) ∙ values_many _ c.args.spawn (admitted (record { id = c.args.from.now; scene = c.args.tree.now.scene }) c.args.tree.now.nodes c.args.from.now c.args.spawn c.requires.judged).values
+
+pub put_values-requires-clause-short : goal.put_values-requires-clause-short
+put_values-requires-clause-short c = values_short _ c.args.spawn (admitted (record { id = c.args.from.now; scene = c.args.tree.now.scene }) c.args.tree.now.nodes c.args.from.now c.args.spawn c.requires.judged).values
+
+pub returns-clause-ok : goal.returns-clause-ok
+returns-clause-ok c = spawn_put c.args.tree.now c.put_node.new.tree c.put_argument.new.tree c.put_values.new.tree c.requires.valid c.args.from.now c.args.spawn c.args.making.now c.as_slice.result.now c.requires.making (admitted (record { id = c.args.from.now; scene = c.args.tree.now.scene }) c.args.tree.now.nodes c.args.from.now c.args.spawn c.requires.judged).free c.as_slice.ensures c.in_ok-put_node.ensures.ok c.put_argument.ensures c.put_values.ensures

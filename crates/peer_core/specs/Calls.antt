@@ -1,0 +1,30 @@
+-- What the calls of the code make, in the words of what they take.
+use Rattle.std.specs.Prelude.{ℕ, ℤ, not, List, [], ◌∷◌, map, Option, Some, None, if◌then◌else◌}
+use Rattle.std.specs.Ordering.{int_eq}
+use Rattle.gd_variant.specs.Words.{when, first_of}
+use Rattle.gd_variant.specs.declared.value.Variant.{Variant}
+use Rattle.scene_model.specs.declared.outcome.Refusal.{Refusal}
+use Rattle.scene_model.specs.declared.outcome.Refusal.TheVariants.{NotAuthority, NoProp, ValueTooLong}
+use Rattle.scene_model.specs.declared.scene.Scene.{Scene}
+use Rattle.scene_model.specs.declared.outcome.Out.{Out}
+use Rattle.scene_model.specs.Lookup.{has_prop}
+use Rattle.peer_model.specs.Updates.{Live}
+use Rattle.peer_model.specs.View.{fits}
+use Rattle.peer_model.specs.Bytes.{PacketForm}
+use Rattle.headless_tree.specs.Nodes.{assigned}
+use Rattle.peer_laws.specs.Shown.{is_open}
+use Rattle.peer_core.specs.declared.rows.SpawnedRow.{SpawnedRow}
+use Rattle.peer_core.specs.Steps.{row_packet, sent_to}
+
+-- a row's packet for each of these peers, where the row is shown
+abbrev pub shown_to_each : PacketForm → Scene → List Live → List ℤ → SpawnedRow → List Out
+shown_to_each form s nodes up r = if is_open s r.place then map (λ b. sent_to form b (row_packet s nodes r)) up else []
+
+-- why an assignment to a node isn't made
+abbrev pub set_at_judged : ℤ → Live → List ℕ → Variant → Option Refusal
+set_at_judged id n prop value = first_of (when (not (int_eq n.auth id)) NotAuthority ∷ when (not (has_prop prop n.values)) NoProp ∷ when (not (fits value)) ValueTooLong ∷ [])
+
+-- the nodes after an assignment, unless it is refused
+abbrev pub set_nodes : Option Refusal → List ℕ → List ℕ → Variant → List Live → List Live
+set_nodes (Some r) path prop value nodes = nodes
+set_nodes None path prop value nodes = assigned path prop value nodes

@@ -1,0 +1,79 @@
+//! What stands in a valid scene, and where.
+ghost use Rattle.std.specs.Prelude.{◌≡◌, ◌<◌, ◌≤◌, ◌+◌, Some, IfSome, length, position, map};
+ghost use Rattle.std.specs.List.{list_any};
+ghost use Rattle.gd_variant.specs.Words.{text_eq, place_of, or_else};
+ghost use Rattle.scene_model.specs.declared.scene.Node.{Node as NodeOf};
+ghost use Rattle.scene_model.specs.declared.scene.SceneDef.{SceneDef as SceneDefOf};
+ghost use Rattle.scene_model.specs.declared.scene.SyncDef.{SyncDef as SyncDefOf};
+ghost use Rattle.scene_model.specs.Lookup.{fixed_path_id, scene_place as scene_place_of};
+ghost use Rattle.scene_model.specs.Valid.{IsValidScene};
+ghost use Rattle.peer_model.specs.Rows.{syncs_at};
+ghost use Rattle.peer_laws.specs.Shown.{is_open as is_open_of};
+
+use crate::texts::same_text;
+use gd_variant::Text;
+use scene_model::{Node, Scene, SceneDef, SyncDef};
+use sqlite_items::at as item_at;
+
+fn node_with(nodes: &[Node], path: &Text) -> Option<usize>
+    ensures place { result ≡ position (λ (n : NodeOf). text_eq path.now n.path) nodes.now }
+    ensures within { IfSome result (λ i. i < length nodes.now) }
+{
+    nodes.iter().position(|node| same_text(path, &node.path))
+}
+
+/// The path id of a fixed node, its place from 1, or 0 where there is none at the path.
+pub fn path_id(scene: &Scene, path: &Text) -> u32
+    requires { IsValidScene scene.now }
+    ensures { result ≡ or_else (fixed_path_id scene.now path.now) 0 }
+{
+    match node_with(scene.nodes.as_slice(), path) {
+        Some(place) => place as u32 + 1,
+        None => 0,
+    }
+}
+
+fn scene_with(scenes: &[SceneDef], name: &Text) -> Option<usize>
+    ensures place { result ≡ position (λ (d : SceneDefOf). text_eq name.now d.name) scenes.now }
+    ensures within { IfSome result (λ i. i < length scenes.now) }
+{
+    scenes.iter().position(|scene| same_text(name, &scene.name))
+}
+
+/// The place of a scene by its name.
+pub fn scene_place(scene: &Scene, name: &Text) -> Option<u32>
+    requires { IsValidScene scene.now }
+    ensures place { result ≡ scene_place_of scene.now name.now }
+    ensures within { IfSome result (λ i. i < length scene.now.scenes) }
+{
+    match scene_with(scene.scenes.as_slice(), name) {
+        Some(place) => Some(place as u32),
+        None => None,
+    }
+}
+
+/// The synchronizers of the scene at a place.
+pub fn syncs_of(scene: &Scene, place: u32) -> &[SyncDef]
+    ensures { result.now ≡ syncs_at scene.now (Some place) }
+{
+    match item_at(scene.scenes.as_slice(), place as usize) {
+        Some(def) => def.syncs.as_slice(),
+        None => &[],
+    }
+}
+
+fn has_public(defs: &[SyncDef]) -> bool
+    ensures { result ≡ list_any (λ (d : SyncDefOf). d.public) defs.now }
+{
+    defs.iter().any(|def| def.public)
+}
+
+/// Whether a row of the scene at a place is shown to others.
+pub fn is_open(scene: &Scene, place: u32) -> bool
+    ensures { result ≡ is_open_of scene.now place }
+{
+    match syncs_of(scene, place) {
+        [] => true,
+        defs => has_public(defs),
+    }
+}

@@ -1,0 +1,157 @@
+//! Spawned nodes are put into the tree.
+ghost use Rattle.std.specs.Prelude.{◌≡◌, ◌<◌, ◌≤◌, ◌+◌, ◌++◌, [], ◌∷◌, true, IfOk, OnOk, length};
+ghost use Rattle.std.specs.List.{list_all};
+ghost use Rattle.gd_variant.specs.Words.{put_by, or_else};
+ghost use Rattle.scene_model.specs.Paths.{joined};
+ghost use Rattle.peer_model.specs.Rows.{syncs_at, count_from};
+ghost use Rattle.headless_tree.specs.Nodes.{row_before, spawned_node};
+ghost use Rattle.headless_tree.specs.Numbers.{are_new};
+ghost use Rattle.peer_core.specs.Steps.{packet_form};
+ghost use Rattle.peer_core.specs.Links.{peers_of};
+ghost use Rattle.peer_core.specs.Calls.{shown_to_each};
+ghost use Rattle.peer_core.specs.Sites.{MaySpawn, who_at, own_made, with_made, after_made, site_row, has_short, with_settings};
+
+use crate::links::Link;
+use crate::rows::SpawnedRow;
+use crate::sending::show_to_each;
+use crate::setting::put_value;
+use crate::spawning::{Site, syncs_at_place};
+use gd_variant::{IdList, OutOfMemory, Text};
+use headless_tree::Tree;
+use scene_model::{OutList, Prop, Scene, SpawnOp, SyncDef};
+use sqlite_items::Items;
+use std::alloc::Global;
+
+/// Adds a node below another with the defaults of the scene at a place.
+pub fn put_node(
+    alloc: Global,
+    tree: &mut Tree,
+    under: &Text,
+    name: &Text,
+    auth: &i32,
+    num: u32,
+    ids: &IdList,
+    place: u32,
+) -> Result<(), OutOfMemory>
+    requires scene { place < length tree.old.scene.scenes }
+    requires numbers { are_new auth.now num ids.now tree.old.nodes ≡ true }
+    ensures { OnOk result (tree.new ≡ record tree.old { nodes = put_by row_before (spawned_node tree.old.scene (joined under.now name.now) auth.now num ids.now place) tree.old.nodes }) }
+{
+    match tree.insert(alloc, under.as_str(), name.as_str(), *auth, num, ids, place) {
+        Ok(()) => Ok(()),
+        Err(_) => Err(OutOfMemory),
+    }
+}
+
+/// Makes settings of the node at a path in order.
+fn put_sets(alloc: Global, tree: &mut Tree, path: &Text, sets: &[Prop]) -> Result<(), OutOfMemory>
+    requires { list_all has_short sets.now ≡ true }
+    ensures { OnOk result (tree.new ≡ record tree.old { nodes = with_settings path.now sets.now tree.old.nodes }) }
+{
+    for set in sets {
+        let value = set.value.try_clone(alloc)?;
+        put_value(tree, path, &set.name, value);
+    }
+    Ok(())
+}
+
+/// A number for each synchronizer.
+fn ids_from(alloc: Global, first: u32, defs: &[SyncDef]) -> Result<IdList, OutOfMemory>
+    requires { first + length defs.now ≤ 4294967295 }
+    ensures { IfOk result (λ ids. ids ≡ count_from first defs.now) }
+{
+    let mut ids = Items::new(alloc);
+    let mut next = first;
+    for _def in defs {
+        ids.push(next)?;
+        next += 1;
+    }
+    Ok(ids)
+}
+
+fn place_or_first(place: Option<u32>) -> u32
+    ensures { result ≡ or_else place 0 }
+{
+    match place {
+        Some(place) => place,
+        None => 0,
+    }
+}
+
+fn make_row(
+    alloc: Global,
+    scene: &Scene,
+    num: u32,
+    op: &SpawnOp,
+    site: &Site,
+) -> Result<SpawnedRow, OutOfMemory>
+    requires { num + length (syncs_at scene.now site.now.place) ≤ 2147483647 }
+    ensures { IfOk result (λ r. r ≡ site_row scene.now num op.now site.now) }
+{
+    let ids = ids_from(alloc, num + 1, syncs_at_place(scene, site.place))?;
+    let path = site.path.try_clone(alloc)?;
+    let spawner = op.spawner.try_clone(alloc)?;
+    let name = op.name.try_clone(alloc)?;
+    Ok(SpawnedRow {
+        num,
+        ids,
+        path,
+        place: place_or_first(site.place),
+        spawner,
+        byte: site.byte,
+        name,
+    })
+}
+
+/// Makes the row of a spawn, and its node with its settings.
+fn add_row(
+    alloc: Global,
+    id: &i32,
+    tree: &mut Tree,
+    num: u32,
+    op: &SpawnOp,
+    site: &Site,
+) -> Result<SpawnedRow, OutOfMemory>
+    requires { MaySpawn (who_at id.now tree.old.scene) tree.old.nodes num op.now site.now }
+    ensures row { IfOk result (λ r. r ≡ own_made id.now tree.old.scene num op.now) }
+    ensures tree { OnOk result (tree.new ≡ record tree.old { nodes = with_made id.now tree.old.scene num op.now tree.old.nodes }) }
+{
+    let row = make_row(alloc, tree.scene(), num, op, site)?;
+    put_node(
+        alloc,
+        tree,
+        &site.under,
+        &op.name,
+        id,
+        num,
+        &row.ids,
+        row.place,
+    )?;
+    put_sets(alloc, tree, &site.path, op.sets.as_slice())?;
+    Ok(row)
+}
+
+/// Makes a spawn that isn't refused: its row, its node, and the packets that show it.
+pub fn make_spawn(
+    alloc: Global,
+    id: &i32,
+    links: &[Link],
+    tree: &mut Tree,
+    next: &mut u32,
+    rows: &mut Vec<SpawnedRow>,
+    op: &SpawnOp,
+    site: &Site,
+) -> Result<OutList, OutOfMemory>
+    requires { MaySpawn (who_at id.now tree.old.scene) tree.old.nodes next.old op.now site.now }
+    ensures packets { IfOk result (λ p. p ≡ shown_to_each packet_form tree.old.scene (with_made id.now tree.old.scene next.old op.now tree.old.nodes) (peers_of links.now) (own_made id.now tree.old.scene next.old op.now)) }
+    ensures tree { OnOk result (tree.new ≡ record tree.old { nodes = with_made id.now tree.old.scene next.old op.now tree.old.nodes }) }
+    ensures next { OnOk result (next.new ≡ after_made id.now tree.old.scene next.old op.now) }
+    ensures rows { OnOk result (rows.new.items ≡ rows.old.items ++ own_made id.now tree.old.scene next.old op.now ∷ []) }
+{
+    let num = *next;
+    let row = add_row(alloc, id, tree, num, op, site)?;
+    let packets = show_to_each(alloc, tree, links, &row)?;
+    *next = num + 1 + row.ids.len() as u32;
+    rows.push(row)?;
+    Ok(packets)
+}

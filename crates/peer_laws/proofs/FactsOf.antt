@@ -1,0 +1,125 @@
+-- What holds of every list of built and accepted events, event by event.
+use Rattle.std.proofs.Common.{◌≡◌, ℕ, ℤ, true, false, cond, not, List, [], ◌∷◌, ◌++◌, refl, sym, ap, ◌∙◌, map, is_some, Some, None, Ok, Err}
+use Rattle.std.specs.Prelude.{flat_map, if◌then◌else◌}
+use Rattle.std.specs.List.{cons_option}
+use Rattle.std.specs.Ordering.{int_eq}
+use Rattle.std.proofs.lemmas.Bool.{true≢false, or_parts, or_from}
+use Rattle.std.proofs.lemmas.List.{append-nil}
+use Rattle.gd_variant.specs.Words.{has_int, has_text, text_eq}
+use Rattle.gd_variant.specs.declared.value.Variant.{Variant}
+use Rattle.gd_variant.specs.declared.message.Plain.TheVariants as packet
+use Rattle.gd_variant.specs.declared.message.Message.TheVariants.{Plain as plain_packet}
+use Rattle.scene_model.specs.declared.scene.Prop.{Prop}
+use Rattle.scene_model.specs.declared.spawn.SpawnMsg.{SpawnMsg}
+use Rattle.scene_model.specs.declared.event.Class.{Class}
+use Rattle.scene_model.specs.declared.event.SpawnOp.{SpawnOp}
+use Rattle.scene_model.specs.declared.event.Op.TheVariants.{Spawn, Set}
+use Rattle.scene_model.specs.Valid.{IsValidScene, has_twice}
+use Rattle.peer_model.specs.Heard.{Who, Heard, does, comes, goes, gets, received_from}
+use Rattle.peer_model.specs.Peers.{was_up, peers_come}
+use Rattle.peer_model.specs.Rows.{row_made, own_rows, spawned_path}
+use Rattle.peer_model.specs.Updates.{Live, shown_node, shown_path}
+use Rattle.peer_model.specs.View.{tree_of, rows_of, node_at, fixed_now, own_live, view}
+use Rattle.headless_tree.specs.Nodes.{is_at, is_row_of, row_before, with_value}
+use Rattle.headless_tree.specs.Lists.{change_first}
+use Rattle.peer_laws.specs.Built.{Accepts, AllAccepted}
+use Rattle.peer_laws.specs.Facts.{Facts, paths_of}
+use Rattle.peer_laws.specs.Shown.{spawned_live}
+use Rattle.peer_laws.proofs.Tests.{never}
+use Rattle.peer_laws.proofs.Numbers.{int_is, int_comm}
+use Rattle.peer_laws.proofs.Joined.{map-map}
+use Rattle.peer_laws.proofs.Once.{found_is_has, filter_once, put_once, change_keeps}
+use Rattle.peer_laws.proofs.Scenes.{fixed_apart}
+use Rattle.peer_laws.proofs.Ups.{come_is_new, was_up_if_up}
+use Rattle.peer_laws.proofs.Views.{show_plain, shown_by, spawn_is_welcome, welcome_is_up}
+use Rattle.peer_laws.proofs.Rows.{below_of}
+use Rattle.peer_laws.proofs.TreeLinks.{tree_come, tree_go}
+use Rattle.peer_laws.proofs.TreeReceives.{tree_receive}
+use Rattle.peer_laws.proofs.TreeSpawns.{spawn_is_allowed, tree_spawn}
+use Rattle.peer_laws.proofs.TreeSets.{tree_set}
+
+-- a path at which no node stands is none of the nodes'
+pub free_path : (who : Who) (es : List Heard) (path : List ℕ) → is_some (node_at who es path) ≡ false → has_text path (paths_of (tree_of who es)) ≡ false
+free_path who es path h = sym (found_is_has (λ (n : Live). n.path) path (tree_of who es)) ∙ h
+
+-- no event yet: the tree is the fixed nodes
+no_facts : (who : Who) → IsValidScene who.scene → Facts who []
+no_facts who v = record {
+  silent = λ c h. refl;
+  other = refl;
+  apart = ap has_twice (ap paths_of (ap (λ rows. map (fixed_now who []) who.scene.nodes ++ rows) none) ∙ ap paths_of (append-nil (map (fixed_now who []) who.scene.nodes)) ∙ map-map (λ (n : Live). n.path) (fixed_now who []) who.scene.nodes) ∙ fixed_apart who.scene v;
+  below = below_of who [];
+}
+  where
+    none : flat_map (rows_of who []) (who.id ∷ []) ≡ []
+    none = elim (int_eq who.id who.id) as (λ b. (if b then map (own_live who []) (own_rows who []) else (view who [] who.id).rows) ++ [] ≡ []) [ true ↦ refl | false ↦ refl ]
+
+-- a peer that comes
+facts_come : (who : Who) (es : List Heard) → Facts who es → (b : ℤ) → Accepts who es (comes b) → Facts who (comes b ∷ es)
+facts_come who es f b h =
+    let new = come_is_new who es b h in
+    record {
+      silent = λ c never_up. f.silent c (or_parts (int_eq c b) (was_up es c) never_up).1;
+      other = or_from (int_eq who.id b) (has_int who.id (peers_come es)) (int_comm who.id b ∙ new.0) f.other;
+      apart = ap (λ ns. has_twice (paths_of ns)) (tree_come who es f b h) ∙ f.apart;
+      below = below_of who (comes b ∷ es);
+    }
+
+-- a peer that goes
+facts_go : (who : Who) (es : List Heard) → IsValidScene who.scene → AllAccepted who es → Facts who es → (b : ℤ) → Accepts who es (goes b) → Facts who (goes b ∷ es)
+facts_go who es v all f b h = record {
+  silent = f.silent;
+  other = f.other;
+  apart = ap (λ ns. has_twice (paths_of ns)) (tree_go who es v all f b h) ∙ filter_once (λ (n : Live). n.path) (λ n. not (is_row_of b n)) (tree_of who es) f.apart;
+  below = below_of who (goes b ∷ es);
+}
+
+-- an assignment
+facts_set : (who : Who) (es : List Heard) → IsValidScene who.scene → AllAccepted who es → Facts who es → (p q : List ℕ) (x : Variant) → Accepts who es (does (Set p q x)) → Facts who (does (Set p q x) ∷ es)
+facts_set who es v all f p q x h = record {
+  silent = f.silent;
+  other = f.other;
+  apart = ap (λ ns. has_twice (paths_of ns)) (tree_set who es v all f p q x h)
+      ∙ ap has_twice (change_keeps (λ (n : Live). n.path) (is_at p) (λ (n : Live). record n { values = change_first (λ (y : Prop). text_eq y.name q) (with_value x) n.values }) (λ n. refl) (tree_of who es))
+      ∙ f.apart;
+  below = below_of who (does (Set p q x) ∷ es);
+}
+
+-- a spawn
+facts_spawn : (who : Who) (es : List Heard) → IsValidScene who.scene → AllAccepted who es → Facts who es → (o : SpawnOp) → Accepts who es (does (Spawn o)) → Facts who (does (Spawn o) ∷ es)
+facts_spawn who es v all f o h = record {
+  silent = f.silent;
+  other = f.other;
+  apart = ap (λ ns. has_twice (paths_of ns)) (tree_spawn who es v all f o h)
+      ∙ put_once (λ (n : Live). n.path) row_before (spawned_live who (row_made who es o)) (tree_of who es) (free_path who es (spawned_path who o) (spawn_is_allowed who es o h).free) f.apart;
+  below = below_of who (does (Spawn o) ∷ es);
+}
+
+-- a received spawn
+facts_receive : (who : Who) (es : List Heard) → IsValidScene who.scene → AllAccepted who es → Facts who es → (from : ℤ) (class : Class) (bytes : List ℕ) (m : SpawnMsg)
+    → Accepts who es (shown_by from class bytes m) → Facts who (shown_by from class bytes m ∷ es)
+facts_receive who es v all f from class bytes m h =
+    let welcome = spawn_is_welcome who es from class bytes m h in
+    let was = was_up_if_up es from (welcome_is_up who es from m welcome) in
+    record {
+      silent = λ c never_up.
+          ap (λ b. cons_option (cond b (Some (show_plain m)) None) (received_from who es c)) (never (int_eq from c) (λ same. sym was ∙ ap (was_up es) (int_is from c same) ∙ never_up))
+          ∙ f.silent c never_up;
+      other = f.other;
+      apart = ap (λ ns. has_twice (paths_of ns)) (tree_receive who es v all f from class bytes m h)
+          ∙ put_once (λ (n : Live). n.path) row_before (shown_node who.scene from m) (tree_of who es) (free_path who es (shown_path who.scene m) welcome.free) f.apart;
+      below = below_of who (shown_by from class bytes m ∷ es);
+    }
+
+-- what holds of every list of built and accepted events
+pub facts : (who : Who) (es : List Heard) → IsValidScene who.scene → AllAccepted who es → Facts who es
+facts who [] v h = no_facts who v
+facts who (comes b ∷ es) v h = facts_come who es (facts who es v h.1) b h.0
+facts who (goes b ∷ es) v h = facts_go who es v h.1 (facts who es v h.1) b h.0
+facts who (does (Set p q x) ∷ es) v h = facts_set who es v h.1 (facts who es v h.1) p q x h.0
+facts who (does (Spawn o) ∷ es) v h = facts_spawn who es v h.1 (facts who es v h.1) o h.0
+facts who (does op ∷ es) v h = absurd (true≢false (sym h.0.built))
+facts who (gets from class bytes (Ok (plain_packet (packet.Spawn scene spawner net syncs name arg values))) ∷ es) v h =
+    facts_receive who es v h.1 (facts who es v h.1) from class bytes (record { scene = scene; spawner = spawner; net = net; syncs = syncs; name = name; arg = arg; values = values }) h.0
+facts who (gets from class bytes (Ok m) ∷ es) v h = absurd (true≢false (sym h.0.built))
+facts who (gets from class bytes (Err bad) ∷ es) v h = absurd (cc h.0.no_fault)
