@@ -55,13 +55,9 @@ does_there (Ok o) k cs p op i c d e below at now said =
     ∙ sym (ap (does_at (live_parts k cs) op) e ∙ ap (client_does (live_parts k cs) i op) (got_at cs i c below at))
 does_there (Err x) k cs p op i c d e below at now said = tt
 
-
-
 -- an operation of a peer that isn't the server
 pub op_of_client : (v : Parts) (p : ℤ) (op : Operation) → int_eq p server ≡ false → does_at v op (place_of p) ≡ op_made v p op
 op_of_client v p op other = sym (ap (λ b. if b then server_made v (event.Op op) else does_at v op (place_of p)) other)
-
-
 
 -- no packet for a client
 pub nothing_down : (v : Parts) (i : ℕ) (c d : Client) (next : Option Out) → slice_get v.clients i ≡ Some c → d ≡ c → None ≡ option_map (received server) next → record { outcome = answers.Refused refusal.NothingInFlight; parts = with_client v i d } ≡ deliver_down v i c next
