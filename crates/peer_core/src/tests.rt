@@ -1,4 +1,5 @@
-//! What a peer answers to each event: reasons in their order, packets byte by byte, and its report.
+//! What a peer sends byte by byte, and its report. The reasons in their order are run by the sessions of
+//! `conformance/`.
 ghost use Rattle.std.specs.Prelude.{◌≡◌, ◌&&◌, is_some, is_none};
 ghost use Rattle.std.specs.List.{list_all};
 ghost use Rattle.gd_variant.specs.Sound.{has_no_zero, is_sound as is_sound_of};
@@ -9,8 +10,8 @@ ghost use Rattle.peer_core.specs.Rights.{is_sound_event};
 use super::*;
 use gd_variant::{Bytes, OutOfMemory, Text, TextRun, Variant, is_sound};
 use scene_model::{
-    Class, Event, Fault, Node, Op, Outcome, Prop, PropList, Refusal, ReplMode, Role, Scene,
-    SceneDef, SpawnOp, SpawnerDef, SyncDef, SyncProp, check,
+    Class, Event, Node, Op, Outcome, Prop, PropList, ReplMode, Role, Scene, SceneDef, SpawnOp,
+    SpawnerDef, SyncDef, SyncProp, check,
 };
 use sqlite_items::Items;
 use std::alloc::Global;
@@ -156,14 +157,6 @@ fn client(alloc: Global) -> Result<Peer, OutOfMemory> {
     }
 }
 
-fn refusal(outcome: &Outcome) -> Option<Refusal> {
-    match outcome {
-        Outcome::Refused(refusal) => Some(*refusal),
-        Outcome::Done(_) => None,
-        Outcome::Fault(_) => None,
-    }
-}
-
 /// A spawn with the setting 7 of a property, where one is named.
 fn spawn(
     alloc: Global,
@@ -178,116 +171,6 @@ fn spawn(
         arg: None,
     };
     answer(alloc, peer, Event::Op(Op::Spawn(op)))
-}
-
-fn set(
-    alloc: Global,
-    peer: &mut Peer,
-    path: &str,
-    prop: &str,
-    value: Variant,
-) -> Result<Outcome, OutOfMemory> {
-    let op = Op::Set {
-        path: text(alloc, path)?,
-        prop: text(alloc, prop)?,
-        value,
-    };
-    answer(alloc, peer, Event::Op(op))
-}
-
-#[test]
-fn spawns_are_refused_in_order(rt: HostRuntime) -> Result<(), OutOfMemory> {
-    let alloc = rt.alloc();
-    let mut peer = server(alloc)?;
-    let rows = [
-        (("s", "p", "a", "v"), None),
-        (("x", "z", "a/b", "w"), Some(Refusal::NoNode)),
-        (("t", "z", "a/b", "w"), Some(Refusal::NoSpawner)),
-        (("c", "z", "a/b", "w"), Some(Refusal::NotAuthority)),
-        (("s", "z", "a/b", "w"), Some(Refusal::NoScene)),
-        (("s", "p", "a/b", "w"), Some(Refusal::BadName)),
-        (("s", "p", "a", "w"), Some(Refusal::NameTaken)),
-        (("s", "p", "d", "w"), Some(Refusal::NoProp)),
-    ];
-    for (words, want) in rows {
-        assert_eq!(rt; refusal(&spawn(alloc, &mut peer, words)?), want);
-    }
-    Ok(())
-}
-
-#[test]
-fn a_spawner_has_no_more_rows_than_its_limit(rt: HostRuntime) -> Result<(), OutOfMemory> {
-    let alloc = rt.alloc();
-    let mut peer = server(alloc)?;
-    for name in ["a", "b", "c"] {
-        assert_eq!(rt;
-            refusal(&spawn(alloc, &mut peer, ("s", "p", name, ""))?),
-            None
-        );
-    }
-    let full = spawn(alloc, &mut peer, ("s", "p", "d", "w"))?;
-    assert_eq!(rt; refusal(&full), Some(Refusal::SpawnLimit));
-    Ok(())
-}
-
-#[test]
-fn assignments_are_refused_in_order(rt: HostRuntime) -> Result<(), OutOfMemory> {
-    let alloc = rt.alloc();
-    let mut peer = server(alloc)?;
-    let rows = [
-        ("x", "w", Some(Refusal::NoNode)),
-        ("b", "w", Some(Refusal::NotAuthority)),
-        ("t", "w", Some(Refusal::NoProp)),
-        ("t", "hp", None),
-    ];
-    for (path, prop, want) in rows {
-        let outcome = set(alloc, &mut peer, path, prop, Variant::Int(5))?;
-        assert_eq!(rt; refusal(&outcome), want);
-    }
-    Ok(())
-}
-
-/// The answer to a run of so many bytes for a property; its form has eight bytes more, and is padded.
-fn set_run(alloc: Global, peer: &mut Peer, count: usize) -> Result<Option<Refusal>, OutOfMemory> {
-    let bytes = Bytes::from_vec(vec![in alloc; 0; count]?);
-    let outcome = set(alloc, peer, "t", "hp", Variant::PackedBytes(bytes))?;
-    Ok(refusal(&outcome))
-}
-
-#[test]
-fn a_value_past_65536_bytes_is_too_long(rt: HostRuntime) -> Result<(), OutOfMemory> {
-    let alloc = rt.alloc();
-    let mut peer = server(alloc)?;
-    assert_eq!(rt;
-        set_run(alloc, &mut peer, 65529)?,
-        Some(Refusal::ValueTooLong)
-    );
-    assert_eq!(rt; set_run(alloc, &mut peer, 65528)?, None);
-    Ok(())
-}
-
-#[test]
-fn links_are_refused(rt: HostRuntime) -> Result<(), OutOfMemory> {
-    let alloc = rt.alloc();
-    let mut peer = server(alloc)?;
-    let rows = [
-        (true, 1, Some(Refusal::BadPeer)),
-        (true, 0, Some(Refusal::BadPeer)),
-        (false, 2, Some(Refusal::NoPeer)),
-        (true, 2, None),
-        (true, 2, Some(Refusal::BadPeer)),
-        (false, 2, None),
-        (true, 2, Some(Refusal::BadPeer)),
-    ];
-    for (up, other, want) in rows {
-        let event = if up {
-            Event::Up(other)
-        } else {
-            Event::Down(other)
-        };
-        assert_eq!(rt; refusal(&answer(alloc, &mut peer, event)?), want);
-    }
-    Ok(())
 }
 
 /// The bytes of the packets that an event sends, one after the other.
@@ -313,27 +196,6 @@ fn a_peer_is_shown_old_rows_and_new_ones(rt: HostRuntime) -> Result<(), OutOfMem
     let new = b"\x04\x00\x01\0\0\0\x03\0\0\0\x01\0\0\0\x02\0\0\0\x04\0\0\0b\0\x02\x00";
     assert!(rt; sent(alloc, &outcome)?.as_slice() == new.as_slice());
     Ok(())
-}
-
-/// What a packet comes to.
-fn end(outcome: &Outcome) -> &'static str {
-    match outcome {
-        Outcome::Done(_) => "Done",
-        Outcome::Refused(_) => "Refused",
-        Outcome::Fault(Fault::UnknownPeer { .. }) => "UnknownPeer",
-        Outcome::Fault(Fault::Malformed { .. }) => "Malformed",
-        Outcome::Fault(Fault::NoName { .. }) => "NoName",
-        Outcome::Fault(Fault::NoSpawner) => "NoSpawner",
-        Outcome::Fault(Fault::NotAuthority) => "NotAuthority",
-        Outcome::Fault(Fault::NoScene) => "NoScene",
-        Outcome::Fault(Fault::IdRange { .. }) => "IdRange",
-        Outcome::Fault(Fault::KnownNet { .. }) => "KnownNet",
-        Outcome::Fault(Fault::BadName) => "BadName",
-        Outcome::Fault(Fault::NameTaken) => "NameTaken",
-        Outcome::Fault(Fault::WrongValues) => "WrongValues",
-        Outcome::Fault(Fault::NotBuilt) => "NotBuilt",
-        Outcome::Fault(_) => "another",
-    }
 }
 
 fn receive(
@@ -372,45 +234,6 @@ fn packet(
         bytes.extend_from_slice(&[2, 7])?;
     }
     Ok(bytes)
-}
-
-#[test]
-fn received_spawns_are_faults_in_order(rt: HostRuntime) -> Result<(), OutOfMemory> {
-    let alloc = rt.alloc();
-    let mut peer = client(alloc)?;
-    answer(alloc, &mut peer, Event::Up(1))?;
-    let rows = [
-        ((0, 1, 1, 2), b'a', true, "Done"),
-        ((9, 9, 0, 0), b'/', false, "NoName"),
-        ((9, 4, 0, 0), b'/', false, "NoSpawner"),
-        ((9, 3, 0, 0), b'/', false, "NotAuthority"),
-        ((9, 1, 0, 0), b'/', false, "NoScene"),
-        ((0, 1, 1, 2147483648), b'/', false, "IdRange"),
-        ((0, 1, 2, 4), b'/', false, "KnownNet"),
-        ((0, 1, 3, 3), b'/', false, "KnownNet"),
-        ((0, 1, 3, 4), b'/', false, "BadName"),
-        ((0, 1, 3, 4), b'a', false, "NameTaken"),
-        ((0, 1, 3, 4), b'b', false, "WrongValues"),
-        ((0, 1, 3, 4), b'b', true, "Done"),
-    ];
-    for (numbers, name, value, want) in rows {
-        let bytes = packet(alloc, numbers, name, value)?;
-        let outcome = receive(alloc, &mut peer, 1, bytes.as_slice())?;
-        assert_eq!(rt; end(&outcome), want);
-    }
-    Ok(())
-}
-
-#[test]
-fn packets_of_others_and_of_other_kinds_are_faults(rt: HostRuntime) -> Result<(), OutOfMemory> {
-    let alloc = rt.alloc();
-    let mut peer = client(alloc)?;
-    let outcome = receive(alloc, &mut peer, 1, &[3, 1])?;
-    assert_eq!(rt; end(&outcome), "UnknownPeer");
-    answer(alloc, &mut peer, Event::Up(1))?;
-    assert_eq!(rt; end(&receive(alloc, &mut peer, 1, &[3, 1])?), "NotBuilt");
-    assert_eq!(rt; end(&receive(alloc, &mut peer, 1, &[])?), "Malformed");
-    Ok(())
 }
 
 /// Authority, number and path of each node.
