@@ -1,28 +1,27 @@
 #!/usr/bin/env bash
 # Times the proved program on a large scene and on a large session.
 #
-#   bench/replay.sh [SIZE]      SIZE nodes and spawns (4000, at most 4096), and half as many
+#   bench/replay.sh [SIZE]      SIZE nodes and spawns (4000, which is the most), and half as many
 #
 # The scene has SIZE fixed nodes, each with two properties; it is read and nothing else. The session has CLIENTS
 # clients (8), SIZE spawns at the server, a delivery of each of them at each client, and a report of each client.
+# It runs over a scene of one fixed node, and over one in which the spawner stands behind SIZE others.
 # Each is timed at half the size too. Of REPEATS runs (3) the fastest counts, and the time of a scene of one node is
 # taken off. It prints the times, their ratios, and the peak memory.
 # It builds nothing: `rt ci`, or `rt run` in crates/godot_mp_cli, makes the program first. PROGRAM names another
 # program to be measured. It needs python3.
 set -u
-here=$(cd "$(dirname "$0")" && pwd)
-program=${PROGRAM:-$here/../crates/godot_mp_cli/out/godot_mp_cli}
+. "$(dirname "$0")/shared.sh"
 size=${1:-4000}
 clients=${CLIENTS:-8}
 repeats=${REPEATS:-3}
-usage() { echo "usage: bench/replay.sh [SIZE], with SIZE from 2 to 4096, CLIENTS from 1 to 64, REPEATS from 1" >&2; exit 2; }
+usage="usage: bench/replay.sh [SIZE], with SIZE from 2 to 4000, CLIENTS from 1 to 64, REPEATS from 1"
 for number in "$size" "$clients" "$repeats"; do
-    case $number in '' | *[!0-9]* | 0*) usage ;; esac
-    [ ${#number} -le 6 ] || usage
+    is_count "$number" || stop 2 "$usage"
 done
-[ "$size" -ge 2 ] && [ "$size" -le 4096 ] && [ "$clients" -le 64 ] || usage
-[ -x "$program" ] || { echo "no proved program stands: run 'rt ci' first" >&2; exit 1; }
-command -v python3 > /dev/null || { echo "python3 is needed" >&2; exit 1; }
+[ "$size" -ge 2 ] && [ "$size" -le 4000 ] && [ "$clients" -le 64 ] || stop 2 "$usage"
+find_program godot_mp_cli
+need_python
 exec python3 - "$program" "$size" "$clients" "$repeats" <<'P'
 import json, os, subprocess, sys, tempfile, time
 
@@ -39,10 +38,10 @@ def scene_of(count):
     return compact({"nodes": nodes, "scenes": []})
 
 
-def session_of(count):
-    """The lines of a session, and how many lines it must write."""
+def session_of(count, others):
+    """The lines of a session over a scene with other fixed nodes too, and how many lines it must write."""
     scene = {
-        "nodes": [{"path": "s", "spawner": {"under": "s", "scenes": ["p"]}}],
+        "nodes": [{"path": "node%d" % i} for i in range(others)] + [{"path": "s", "spawner": {"under": "s", "scenes": ["p"]}}],
         "scenes": [{"name": "p", "props": [["v", 0]], "methods": [], "syncs": [{"props": [["v", "change", True]]}]}],
     }
     lines = [compact(scene)] + [compact(["connect"])] * clients
@@ -52,7 +51,7 @@ def session_of(count):
     connects = 2 * clients
     spawns = count * (1 + clients)
     deliveries = count * clients
-    reports = clients * (3 + 2 * count)
+    reports = clients * (3 + others + 2 * count)
     return "".join(lines), connects + spawns + deliveries + reports
 
 
@@ -100,6 +99,7 @@ with tempfile.TemporaryDirectory() as folder:
     idle, _ = run(scene_of(1), 0, folder)
     print("starting, and a scene of one node: %.3f s" % idle, flush=True)
     measure("scene with nodes", lambda count: (scene_of(count), 0), folder, idle)
-    session = measure("session with %d clients and spawns" % clients, session_of, folder, idle)
-    print("microseconds a spawn and client: %.2f" % (session / (size * clients) * 1e6))
+    session = measure("session with %d clients and spawns" % clients, lambda count: session_of(count, 0), folder, idle)
+    print("    microseconds a spawn and client: %.2f" % (session / (size * clients) * 1e6), flush=True)
+    measure("session over a large scene with %d clients and spawns" % clients, lambda count: session_of(count, count), folder, idle)
 P

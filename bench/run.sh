@@ -6,11 +6,10 @@
 #
 # It builds nothing: `rt ci`, or `rt run` in crates/godot_mp_cli, makes the program first.
 set -u
-here=$(cd "$(dirname "$0")" && pwd)
-program=$here/../crates/godot_mp_cli/out/godot_mp_cli
+. "$(dirname "$0")/shared.sh"
 repeats=${1:-200}
-case $repeats in '' | *[!0-9]* | 0) echo "usage: bench/run.sh [REPEATS]" >&2; exit 2 ;; esac
-[ -x "$program" ] || { echo "no proved program stands: run 'rt ci' first" >&2; exit 1; }
+is_count "$repeats" || stop 2 "usage: bench/run.sh [REPEATS]"
+find_program godot_mp_cli
 work=$(mktemp -d)
 trap 'rm -rf "$work"' EXIT
 input=$work/session

@@ -7,12 +7,11 @@
 # holds one line at a time, so the second peak is the first. It builds nothing: `rt ci`, or `rt run` in
 # crates/godot_mp_cli, makes the program first. PROGRAM names another program to be measured.
 set -u
-here=$(cd "$(dirname "$0")" && pwd)
-program=${PROGRAM:-$here/../crates/godot_mp_cli/out/godot_mp_cli}
+. "$(dirname "$0")/shared.sh"
 packets=${1:-200000}
-case $packets in '' | *[!0-9]* | 0) echo "usage: bench/show.sh [PACKETS]" >&2; exit 2 ;; esac
-[ -x "$program" ] || { echo "no proved program stands: run 'rt ci' first" >&2; exit 1; }
-command -v python3 > /dev/null || { echo "python3 is needed" >&2; exit 1; }
+is_count "$packets" || stop 2 "usage: bench/show.sh [PACKETS]"
+find_program godot_mp_cli
+need_python
 exec python3 - "$program" "$packets" <<'P'
 import os, struct, subprocess, sys, tempfile, time
 

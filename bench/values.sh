@@ -9,13 +9,12 @@
 # of 1 MB may stay within a processor's cache, and one of 2 MB may not.
 # It builds nothing: `rt ci`, or `rt run` in crates/value_cli, makes the program first. It needs python3.
 set -u
-here=$(cd "$(dirname "$0")" && pwd)
-program=$here/../crates/value_cli/out/value_cli
+. "$(dirname "$0")/shared.sh"
 size=${1:-1000}
-case $size in '' | *[!0-9]* | 0) echo "usage: bench/values.sh [KILOBYTES]" >&2; exit 2 ;; esac
-[ "$size" -le 4000 ] || { echo "at most 4000 kilobytes: a value has at most 8 MB, and twice the size is timed too" >&2; exit 2; }
-[ -x "$program" ] || { echo "no proved program stands: run 'rt ci value_cli', or 'rt run < stdin' in crates/value_cli, first" >&2; exit 1; }
-command -v python3 > /dev/null || { echo "python3 is needed" >&2; exit 1; }
+is_count "$size" || stop 2 "usage: bench/values.sh [KILOBYTES]"
+[ "$size" -le 4000 ] || stop 2 "at most 4000 kilobytes: a value has at most 8 MB, and twice the size is timed too"
+find_program value_cli
+need_python
 exec python3 - "$program" "$size" <<'P'
 import resource
 import struct

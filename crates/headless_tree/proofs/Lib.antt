@@ -8,3 +8,4 @@ pub mod Spots
 pub mod Paths
 pub mod Made
 pub mod Rows
+pub mod Fixed

@@ -20,7 +20,7 @@ lower_then a b c k m n h i = grind (arith, ints)
 one_is_lower : (a b : ℤ) (k m : ℕ) → (int_lt a b || (int_eq a b && nat_lt k m)) ≡ false → (int_eq a b && nat_eq k m) ≡ false → (int_lt b a || (int_eq b a && nat_lt m k)) ≡ true
 one_is_lower a b k m h i = grind (arith, ints)
 
-or_cases : (a b : Bool) → (not a || b) ≡ true → a ≡ true → b ≡ true
+pub or_cases : (a b : Bool) → (not a || b) ≡ true → a ≡ true → b ≡ true
 or_cases true b h e = h
 or_cases false b h e = absurd (cc e)
 

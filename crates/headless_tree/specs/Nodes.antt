@@ -1,12 +1,12 @@
 -- The tree of nodes: which nodes stand in it, and what each call makes of them.
-use Rattle.std.specs.Prelude.{◌≡◌, ℕ, ℤ, Bool, not, ◌&&◌, ◌||◌, cond, List, [], ◌∷◌, map, filter, length, Option, Some, option_and_then, is_none, is_some, nat_le, nat_lt, int_lt, slice_get, position}
+use Rattle.std.specs.Prelude.{◌≡◌, ℕ, ℤ, Bool, true, not, ◌&&◌, ◌||◌, cond, List, [], ◌∷◌, map, filter, length, Option, Some, option_and_then, is_none, is_some, nat_le, nat_lt, int_lt, slice_get, position}
 use Rattle.std.specs.Ordering.{int_eq}
 use Rattle.gd_variant.specs.Words.{text_eq, some_is, when, first_of}
 use Rattle.gd_variant.specs.Size.{value_size}
 use Rattle.gd_variant.specs.declared.value.Variant.{Variant}
 use Rattle.scene_model.specs.declared.scene.Scene.{Scene}
 use Rattle.scene_model.specs.declared.scene.Prop.{Prop}
-use Rattle.scene_model.specs.Lookup.{scene_at, has_prop, value_in}
+use Rattle.scene_model.specs.Lookup.{fixed_node, fixed_paths, scene_at, has_prop, value_in}
 use Rattle.scene_model.specs.Paths.{joined}
 use Rattle.peer_model.specs.Updates.{Live, fixed_live, live_at}
 use Rattle.peer_model.specs.Values.{props_in}
@@ -35,6 +35,18 @@ is_at path n = text_eq n.path path
 -- whether a node was spawned
 abbrev pub is_spawned : Live → Bool
 is_spawned n = is_some n.place
+
+-- whether a node is a fixed one
+abbrev pub is_fixed : Live → Bool
+is_fixed n = not (is_spawned n)
+
+-- whether the fixed nodes have the paths of a scene, in its order
+abbrev pub KeepsFixed : Scene → List Live → Type 0
+KeepsFixed s nodes = map (λ (n : Live). n.path) (filter is_fixed nodes) ≡ fixed_paths s
+
+-- a node stands at the path of each node of the scene
+abbrev pub HasFixed : TreeOf → Type 0
+HasFixed t = (path : List ℕ) → is_some (fixed_node t.scene path) ≡ true → is_some (live_at t.nodes path) ≡ true
 
 -- the value of a property of the node at a path
 abbrev pub value_at : List Live → List ℕ → List ℕ → Option Variant

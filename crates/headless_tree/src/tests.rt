@@ -208,6 +208,16 @@ fn values_are_assigned_where_they_fit(rt: HostRuntime) -> Result<(), OutOfMemory
     Ok(())
 }
 
+#[test]
+fn fixed_nodes_are_found_by_path(rt: HostRuntime) -> Result<(), OutOfMemory> {
+    let tree = filled(rt.alloc())?;
+    let rows = [("s", Some(0)), ("b", Some(1)), ("s/p1", None), ("q", None)];
+    for (path, want) in rows {
+        assert_eq!(rt; tree.fixed_place(path), want, "{path}");
+    }
+    Ok(())
+}
+
 /// Whether each number of an authority leads to the place, or to none where the place is 99.
 fn are_placed(tree: &Tree, rows: &[(i32, u32, usize)]) -> bool {
     for (auth, id, want) in rows {

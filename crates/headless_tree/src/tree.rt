@@ -2,13 +2,15 @@
 ghost use Rattle.std.specs.Prelude.{◌≡◌, ◌<◌, ◌≤◌, IfOk, IfSome, MatchResult, Some, None, true, length, map, position, option_map, slice_get, remove, is_some};
 ghost use Rattle.std.specs.List.{list_all, prefix_len, position_or_len, remove_range};
 ghost use Rattle.std.specs.Option.{option_copied};
+ghost use Rattle.gd_variant.specs.Words.{text_eq, some_is};
+ghost use Rattle.scene_model.specs.declared.scene.Node.{Node as SceneNode};
 ghost use Rattle.scene_model.specs.Valid.{IsValidScene};
 ghost use Rattle.peer_model.specs.Updates.{Live, live_at, fixed_live};
 ghost use Rattle.peer_model.specs.View.{row_of as row_seen};
 ghost use Rattle.headless_tree.specs.declared.node.NodeNow.{NodeNow as NodeOf};
 ghost use Rattle.headless_tree.specs.Numbers.{has_number, is_new as is_new_in, are_new as are_new_in};
 ghost use Rattle.headless_tree.specs.Order.{are_in_order};
-ghost use Rattle.headless_tree.specs.Nodes.{live, is_at, value_at, fixed_nodes, assign_no, assigned, assign_at_no, assigned_at, is_long, is_row_of as is_row, is_spawned as is_spawned_in, has_spawned as has_spawned_in, without_spawned, without_rows, IsSpot};
+ghost use Rattle.headless_tree.specs.Nodes.{live, KeepsFixed, HasFixed, is_at, value_at, fixed_nodes, assign_no, assigned, assign_at_no, assigned_at, is_long, is_row_of as is_row, is_spawned as is_spawned_in, has_spawned as has_spawned_in, without_spawned, without_rows, IsSpot};
 
 mod making;
 mod paths;
@@ -27,7 +29,7 @@ const MOST_VALUE_BYTES: u64 = 65536;
 
 /// The nodes of one peer: the fixed ones in the order of the scene, then the spawned ones by
 /// authority and number. Each path stands in `paths` at its node's place, and in `numbers` under each
-/// number of its node.
+/// number of its node. The fixed nodes stay.
 #[derive(Drop)]
 pub struct Tree {
     scene: Scene,
@@ -42,7 +44,7 @@ impl Model for Tree {
     ghost use Rattle.std.specs.Coded.{codes};
     ghost use Rattle.gd_variant.specs.contracts.value.Variant as variant;
     ghost use Rattle.headless_tree.specs.declared.node.NodeNow.{NodeNow as NodeOf};
-    ghost use Rattle.headless_tree.specs.Nodes.{TreeOf, live};
+    ghost use Rattle.headless_tree.specs.Nodes.{TreeOf, KeepsFixed, live};
     ghost use Rattle.headless_tree.specs.Numbers.{has_paths_once, is_numbered};
     ghost use Rattle.headless_tree.specs.Order.{are_in_order};
 
@@ -52,7 +54,7 @@ impl Model for Tree {
 
     ghost view = { λ t. record { scene = t.scene; nodes = map live t.nodes.items } };
 
-    ghost invariant = { λ t. (map string_bytes t.paths.keys ≡ map (λ (n : NodeOf). n.path) t.nodes.items) × (has_paths_once (map live t.nodes.items) ≡ true) × (is_numbered t.numbers (map live t.nodes.items) ≡ true) × (are_in_order (map live t.nodes.items) ≡ true) };
+    ghost invariant = { λ t. (map string_bytes t.paths.keys ≡ map (λ (n : NodeOf). n.path) t.nodes.items) × (has_paths_once (map live t.nodes.items) ≡ true) × (is_numbered t.numbers (map live t.nodes.items) ≡ true) × (are_in_order (map live t.nodes.items) ≡ true) × KeepsFixed t.scene (map live t.nodes.items) };
 }
 
 impl Tree {
@@ -70,9 +72,27 @@ impl Tree {
         self.paths.get_index_of(path)
     }
 
-    /// The node at a path.
+    /// The place, from 0, of the fixed node with this path among the nodes of the scene.
+    pub fn fixed_place(&self, path: &str) -> Option<usize>
+        ensures place { result ≡ position (λ (n : SceneNode). text_eq path.now n.path) self.now.scene.nodes }
+        ensures within { IfSome result (λ i. i < length self.now.scene.nodes) }
+    {
+        match self.place_of(path) {
+            Some(place) => {
+                if place < self.scene.nodes.len() {
+                    Some(place)
+                } else {
+                    None
+                }
+            }
+            None => None,
+        }
+    }
+
+    /// The node at a path. One stands at the path of each node of the scene.
     pub fn node_at(&self, path: &str) -> Option<&NodeNow>
-        ensures { option_map live (option_copied result) ≡ live_at self.now.nodes path.now }
+        ensures node { option_map live (option_copied result) ≡ live_at self.now.nodes path.now }
+        ensures fixed { HasFixed self.now }
     {
         match self.place_of(path) {
             Some(place) => item_at(self.nodes.as_slice(), place),
@@ -153,6 +173,7 @@ impl Tree {
     pub fn rows(&self, alloc: Global) -> Result<RowList, OutOfMemory>
         ensures rows { IfOk result (λ rows. rows ≡ map row_seen self.now.nodes) }
         ensures order { are_in_order self.now.nodes ≡ true }
+        ensures fixed { KeepsFixed self.now.scene self.now.nodes }
     {
         let mut rows = Items::new(alloc);
         for node in self.nodes.as_slice() {
@@ -218,7 +239,8 @@ impl Tree {
     }
 
     fn remove_at(&mut self, place: usize)
-        requires { place < length self.old.nodes }
+        requires place { place < length self.old.nodes }
+        requires spawned { some_is is_spawned_in (slice_get self.old.nodes place) ≡ true }
         ensures { self.new ≡ record self.old { nodes = remove self.old.nodes place } }
     {
         let node = self.nodes.remove(place);

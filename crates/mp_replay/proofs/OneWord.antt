@@ -3,7 +3,7 @@ use Rattle.std.proofs.Common.{◌≡◌, true, List, [], ◌∷◌, length, ap, 
 use Rattle.std.specs.Prelude.{String, string_bytes, codes}
 use Rattle.std.specs.declared.alloc.Global.{Global}
 use Rattle.mp_replay.specs.Ends.{is_replay, is_show}
-use Rattle.peer_model.proofs.Texts.{text_eq-true}
+use Rattle.scene_model.proofs.TextLaws.{text_eq-true}
 
 pub never_both : (ws : List (String Global)) → is_replay ws ≡ true → is_show ws ≡ true → ⊥
 never_both [] r s = cc

@@ -21,7 +21,7 @@ use Rattle.peer_model.specs.View.{updates_in, updates_from}
 use Rattle.peer_model.specs.Refusals.{up_refusal}
 use Rattle.peer_model.specs.Answer.{sends}
 use Rattle.peer_model.specs.Bytes.{accepted_events, answer, out_of}
-use Rattle.peer_model.proofs.Lists.{length-put_by}
+use Rattle.scene_model.proofs.ListLaws.{length-put_by}
 use Rattle.peer_laws.specs.Built.{AllAccepted}
 use Rattle.peer_laws.proofs.Numbers.{int_same}
 use Rattle.peer_laws.proofs.FactsOf.{facts}

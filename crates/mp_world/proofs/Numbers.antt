@@ -16,11 +16,12 @@ use Rattle.peer_model.specs.Changes.{changes, live_numbers, numbers_of}
 use Rattle.peer_model.specs.Visible.{visible_rows}
 use Rattle.peer_laws.specs.Built.{AllAccepted}
 use Rattle.peer_laws.specs.Shown.{is_open}
-use Rattle.peer_laws.proofs.Each.{all_weaker, all_both}
+use Rattle.peer_laws.proofs.Each.{all_both}
 use Rattle.peer_laws.proofs.Sorted.{put_past}
 use Rattle.peer_laws.proofs.Heads.{ShowsOf, told}
 use Rattle.peer_laws.proofs.Origins.{ids_below, rows_rise, own_rows_rise, rise_kept}
 use Rattle.peer_laws.proofs.Sight.{open_rows, visible_are}
+use Rattle.headless_tree.proofs.Order.{all_weaker}
 
 -- whether rows have lower numbers than an own row
 abbrev is_above : List Live → OwnRow → Bool

@@ -1,11 +1,10 @@
 -- The packet of an own row can be written, and is read again, where the operations are sound.
-use Rattle.std.proofs.Common.{◌≡◌, ℕ, zero, suc, ◌+◌, ◌^◌, ◌<◌, ◌≤◌, Bool, true, false, cond, ◌||◌, List, [], ◌∷◌, ◌++◌, length, map, refl, sym, ap, ◌∙◌, subst, arith, Option, Some, None}
-use Rattle.std.specs.Prelude.{nat_le, option_map, option_and_then, is_some}
+use Rattle.std.proofs.Common.{◌≡◌, ℕ, zero, suc, ◌+◌, ◌^◌, ◌<◌, ◌≤◌, Bool, true, List, [], ◌∷◌, length, map, refl, sym, ap, ◌∙◌, subst, arith, Some, None}
+use Rattle.std.specs.Prelude.{option_and_then}
 use Rattle.std.specs.List.{list_all, AllByRecursion}
-use Rattle.std.proofs.lemmas.Bool.{ltb-false, leb-true, and_parts, and_from, or_parts}
-use Rattle.std.proofs.lemmas.Bool.Decides.{nat_tests}
-use Rattle.std.proofs.lemmas.List.{length-append, length-map}
-use Rattle.gd_variant.specs.Words.{text_eq, has_text, or_else, place_of}
+use Rattle.std.proofs.lemmas.Bool.{ltb-false, and_parts, and_from}
+use Rattle.std.proofs.lemmas.List.{length-map}
+use Rattle.gd_variant.specs.Words.{or_else, place_of}
 use Rattle.gd_variant.specs.Sound.{is_sound, is_text, has_no_zero}
 use Rattle.std.specs.Str.{is_utf8}
 use Rattle.gd_variant.specs.declared.value.Variant.{Variant}
@@ -21,8 +20,7 @@ use Rattle.scene_model.specs.declared.event.SpawnOp.{SpawnOp}
 use Rattle.scene_model.specs.declared.event.Op.TheVariants.{Spawn, Set}
 use Rattle.scene_model.specs.Lookup.{fixed_path_id, fixed_node_at, spawner_at, spawner_of}
 use Rattle.scene_model.specs.Paths.{is_name}
-use Rattle.scene_model.specs.Valid.{IsValidScene, node_why, most_entries}
-use Rattle.scene_model.specs.declared.scene.SceneWhy.{SceneWhy}
+use Rattle.scene_model.specs.Valid.{IsValidScene}
 use Rattle.peer_model.specs.Heard.{Who, Heard, does, comes, goes, gets}
 use Rattle.peer_model.specs.Rows.{OwnRow, own_rows, row_made, next_number, syncs_at, spawned_scene, count_from}
 use Rattle.peer_model.specs.Values.{own_value}
@@ -33,37 +31,25 @@ use Rattle.peer_model.specs.Answer.{update_packet}
 use Rattle.peer_model.specs.Refusals.{last_number}
 use Rattle.peer_laws.specs.Built.{Accepts, AllAccepted}
 use Rattle.peer_laws.proofs.Tests.{not_false}
-use Rattle.peer_laws.proofs.Scenes.{EachRight, nodes_right, right_node}
 use Rattle.peer_laws.proofs.TreeSpawns.{spawn_is_allowed, spawn_is_placed, spawn_has_no_argument}
 use Rattle.peer_laws.proofs.Sight.{length-count_from}
 use Rattle.peer_laws.proofs.ValuesFit.{own_fits}
 use Rattle.peer_laws.proofs.Each.{all_joined}
 use Rattle.peer_laws.proofs.ScenesByNumber.{spawner_few}
 use Rattle.peer_laws.proofs.Homes.{maker}
-use Rattle.peer_laws.proofs.ShownRows.{node_named}
+use Rattle.peer_laws.proofs.ShownRows.{node_named, some_again}
 use Rattle.peer_laws.proofs.Origins.{IsMade, every_made}
 use Rattle.peer_laws.proofs.Rows.{rows_come, rows_go, rows_set, rows_spawn, rows_receive}
 use Rattle.peer_core.specs.Steps.{packet_form, IsReadablePlain}
 use Rattle.peer_core.specs.Rights.{is_right_value}
-use Rattle.peer_core.proofs.Encodable.{IsShown, spawn_encodable, readable}
+use Rattle.peer_core.proofs.Encodable.{IsShown, spawn_encodable, readable, name_short}
 use Rattle.mp_world.specs.Stands.{has_sound, is_sound_op}
 use Rattle.mp_world.proofs.SoundValues.{is_sound_heard, own_sound}
 use Rattle.mp_world.proofs.Places.{got_within}
+use Rattle.peer_core.proofs.PlacesOf.{nodes_few}
+use Rattle.peer_core.proofs.SpawnMade.{place_below}
 
 -- a valid scene has few nodes
-
-few_entries : {X : Type 0} (why : List X × X → Option SceneWhy) → ((earlier : List X) (x : X) → why (earlier, x) ≡ None → length earlier < 4096) → (earlier xs : List X) → EachRight why earlier xs → length earlier ≤ 4096 → length earlier + length xs ≤ 4096
-few_entries why k earlier [] h few = omega (arith, few)
-few_entries why k earlier (x ∷ xs) h few =
-    let here = k earlier x h.0 in
-    let more = few_entries why k (earlier ++ x ∷ []) xs h.1 (omega (arith, here, length-append earlier (x ∷ []))) in
-    omega (arith, more, length-append earlier (x ∷ []))
-
-below_most : (n : ℕ) → nat_le most_entries n ≡ false → n < 4096
-below_most n h = grind (arith, nat_tests)
-
-nodes_few : (s : Scene) → IsValidScene s → length s.nodes ≤ 4096
-nodes_few s v = let all = few_entries (node_why s) (λ earlier n h. below_most (length earlier) (or_parts (nat_le most_entries (length earlier)) _ (or_parts _ _ (right_node s earlier n h).few).0).0) [] s.nodes (nodes_right s v) (omega arith) in omega (arith, all)
 
 -- ids that count on
 
@@ -71,14 +57,7 @@ count_small : {X : Type 0} (n : ℕ) (xs : List X) → n + length xs ≤ 2147483
 count_small n [] h = tt
 count_small n (x ∷ xs) h = (omega (arith, h), count_small (n + 1) xs (omega (arith, h)))
 
-some_again : (o : Option ℕ) → is_some o ≡ true → Some (or_else o 0) ≡ o
-some_again None h = absurd (cc h)
-some_again (Some i) h = refl
-
 -- names
-
-name_short : (name : List ℕ) → is_name name ≡ true → length name ≤ 64
-name_short name h = leb-true (length name) 64 (and_parts _ _ (and_parts _ _ h).0).1
 
 name_fits : (name : List ℕ) → is_name name ≡ true → is_text name ≡ true → IsName name
 name_fits name named text =
@@ -87,18 +66,6 @@ name_fits name named text =
     record { zero = parts.0; utf8 = parts.1; short = omega (arith, short) }
 
 -- the scene byte of an own row
-
-place_below : (t : List ℕ) (ts : List (List ℕ)) (other : ℕ) → has_text t ts ≡ true → or_else (place_of t ts) other < length ts
-place_below t [] other h = absurd (cc h)
-place_below t (u ∷ us) other h = step (text_eq t u) (λ k. below (place_of t us) (place_below t us other k)) h
-  where
-    below : (p : Option ℕ) → or_else p other < length us → or_else (option_map (λ k. k + 1) p) other < suc (length us)
-    below None k = omega (arith, k)
-    below (Some i) k = omega (arith, k)
-
-    step : (b : Bool) → (has_text t us ≡ true → or_else (option_map (λ k. k + 1) (place_of t us)) other < suc (length us)) → (b || has_text t us) ≡ true → or_else (cond b (Some 0) (option_map (λ k. k + 1) (place_of t us))) other < suc (length us)
-    step true more k = omega arith
-    step false more k = more k
 
 byte_below : (who : Who) (es : List Heard) (o : SpawnOp) → IsValidScene who.scene → Accepts who es (does (Spawn o)) → scene_byte who (row_made who es o) < 255
 byte_below who es o v now =

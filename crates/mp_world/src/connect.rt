@@ -69,17 +69,16 @@ fn connect_as(
     clients: &mut Vec<Client>,
     alloc: Global,
     number: &i32,
-    scene: &Scene,
 ) -> Result<WorldOutcome, OutOfMemory>
     requires number { pos 1 ≤ℤ number.now }
-    requires scene { IsValidScene scene.now }
+    requires scene { IsValidScene server.old.who.scene }
     ensures server { OnOk result (server.new ≡ (taken packet_form server.old (event_of.Up number.now)).kept) }
-    ensures clients { OnOk result (clients.new.items ≡ with_packets (packets_in (taken packet_form server.old (event_of.Up number.now)).outcome) 0 (clients.old.items ++ client_made_of (taken packet_form (new_peer scene.now number.now) (event_of.Up server_id)).kept (packets_in (taken packet_form (new_peer scene.now number.now) (event_of.Up server_id)).outcome) ∷ [])) }
-    ensures outcome { IfOk result (λ o. o ≡ WorldOutcome.Done (Some number.now) (step_of server_id (effects_in (taken packet_form server.old (event_of.Up number.now)).outcome) ∷ step_of number.now (effects_in (taken packet_form (new_peer scene.now number.now) (event_of.Up server_id)).outcome) ∷ [])) }
+    ensures clients { OnOk result (clients.new.items ≡ with_packets (packets_in (taken packet_form server.old (event_of.Up number.now)).outcome) 0 (clients.old.items ++ client_made_of (taken packet_form (new_peer server.old.who.scene number.now) (event_of.Up server_id)).kept (packets_in (taken packet_form (new_peer server.old.who.scene number.now) (event_of.Up server_id)).outcome) ∷ [])) }
+    ensures outcome { IfOk result (λ o. o ≡ WorldOutcome.Done (Some number.now) (step_of server_id (effects_in (taken packet_form server.old (event_of.Up number.now)).outcome) ∷ step_of number.now (effects_in (taken packet_form (new_peer server.old.who.scene number.now) (event_of.Up server_id)).outcome) ∷ [])) }
 {
     let id = *number;
+    let (client, second) = new_client(alloc, number, server.scene())?;
     let first = step(server, alloc, Event::Up(id))?;
-    let (client, second) = new_client(alloc, number, scene)?;
     clients.push(client)?;
     send_down(clients, alloc, &first)?;
     answer_of(alloc, number, first, second)
@@ -98,15 +97,13 @@ pub fn connect(
     server: &mut Peer,
     clients: &mut Vec<Client>,
     alloc: Global,
-    scene: &Scene,
 ) -> Result<WorldOutcome, OutOfMemory>
-    requires valid { IsValidScene scene.now }
-    requires scene { server.old.who.scene ≡ scene.now }
+    requires { IsValidScene server.old.who.scene }
     ensures { IfOk result (λ o. record { outcome = o; parts = live_parts server.new clients.new.items } ≡ connect_made (live_parts server.old clients.old.items)) }
 {
     if clients.len() < MOST_CLIENTS {
         let number = next_number(clients);
-        connect_as(server, clients, alloc, &number, scene)
+        connect_as(server, clients, alloc, &number)
     } else {
         Ok(WorldOutcome::Refused(WorldNo::PeersFull))
     }

@@ -17,8 +17,7 @@ use crate::operate::operate;
 use crate::steps::{SERVER, is_server};
 use gd_variant::OutOfMemory;
 use peer_core::{Peer, Stop};
-use scene_model::{Report, Scene, TryClone, WorldEvent, WorldOutcome};
-use sqlite_items::Items;
+use scene_model::{Report, Scene, WorldEvent, WorldOutcome};
 use std::alloc::Global;
 use std::marker::Model;
 
@@ -45,23 +44,18 @@ fn take(
     server: &mut Peer,
     clients: &mut Vec<Client>,
     alloc: Global,
-    scene: &Scene,
     event: WorldEvent,
 ) -> Result<WorldOutcome, OutOfMemory>
     requires built { is_built_event event ≡ true }
     requires sound { has_sound_values event ≡ true }
-    requires valid { IsValidScene scene.now }
-    requires scene { server.old.who.scene ≡ scene.now }
+    requires valid { IsValidScene server.old.who.scene }
     ensures { IfOk result (λ o. record { outcome = o; parts = live_parts server.new clients.new.items } ≡ made_of (live_parts server.old clients.old.items) event) }
 {
     match event {
-        WorldEvent::Connect => connect(server, clients, alloc, scene),
+        WorldEvent::Connect => connect(server, clients, alloc),
         WorldEvent::Op { peer, op } => operate(server, clients, alloc, &peer, op),
         WorldEvent::Rel { from, to } => deliver(server, clients, alloc, &from, &to),
-        _ => Ok(WorldOutcome::Done {
-            made: None,
-            steps: Items::new(alloc),
-        }),
+        WorldEvent::Down(_) | WorldEvent::Loose { .. } | WorldEvent::Forge { .. } => unreachable!(),
     }
 }
 
@@ -102,7 +96,6 @@ fn report_at(
 #[derive(Drop)]
 pub struct World {
     spent: bool,
-    scene: Scene,
     server: Peer,
     clients: Vec<Client>,
 }
@@ -120,7 +113,7 @@ impl Model for World {
 
     ghost view = { λ w. record { spent = w.spent; server = w.server; clients = w.clients.items } };
 
-    ghost invariant = { λ w. IsValidScene w.scene × (w.spent ≡ false → w.server.who.scene ≡ w.scene) };
+    ghost invariant = { λ w. w.spent ≡ false → IsValidScene w.server.who.scene };
 }
 
 impl World {
@@ -132,7 +125,6 @@ impl World {
     {
         Ok(World {
             spent: false,
-            scene: scene.try_clone(alloc)?,
             server: Peer::new(alloc, SERVER, scene)?,
             clients: Vec::new(alloc),
         })
@@ -156,13 +148,7 @@ impl World {
         if self.spent {
             return Err(WorldStop::Spent);
         }
-        match take(
-            &mut self.server,
-            &mut self.clients,
-            alloc,
-            &self.scene,
-            event,
-        ) {
+        match take(&mut self.server, &mut self.clients, alloc, event) {
             Ok(outcome) => Ok(outcome),
             Err(OutOfMemory) => {
                 self.spent = true;

@@ -6,7 +6,7 @@ use Rattle.std.proofs.lemmas.Bool.Decides.{nat_tests}
 use Rattle.std.proofs.lemmas.Bool.{and_parts}
 use Rattle.gd_variant.specs.declared.value.Variant.{Variant}
 use Rattle.scene_model.specs.declared.scene.SyncDef.{SyncDef}
-use Rattle.gd_variant.specs.Words.{has_nat, when, first_of, first_some}
+use Rattle.gd_variant.specs.Words.{has_nat, when, first_some}
 use Rattle.scene_model.specs.declared.spawn.SpawnMsg.{SpawnMsg}
 use Rattle.scene_model.specs.declared.outcome.Fault.{Fault}
 use Rattle.scene_model.specs.declared.outcome.Fault.TheVariants as fault
@@ -20,17 +20,12 @@ use Rattle.peer_model.specs.View.{fits}
 use Rattle.peer_model.specs.Faults.{auth_is, bad_id, known_ids, first_known, all_fit, wrong_spawn}
 use Rattle.headless_tree.specs.Numbers.{are_new}
 use Rattle.peer_laws.specs.Facts.{rows_under}
-use Rattle.peer_laws.proofs.Tests.{no_row}
+use Rattle.peer_laws.proofs.Tests.{no_row, no_first, none_mapped}
 use Rattle.peer_laws.proofs.Scenes.{shown_name}
 use Rattle.peer_core.specs.Judged.{shown_judged}
 use Rattle.peer_core.specs.Arrivals.{meaning_judged, judged_beside}
 use Rattle.peer_core.proofs.Knowns.{first_new, new_for, known_first}
-
--- the first answer of two lists
-pub first_join : {X : Type 0} (rows more : List (Option X)) → first_of (rows ++ more) ≡ first_some (first_of rows) (first_of more)
-first_join [] more = refl
-first_join (Some x ∷ rows) more = refl
-first_join (None ∷ rows) more = first_join rows more
+use Rattle.peer_core.proofs.SpawnParts.{first-append}
 
 -- the parts of why a spawn is a fault, one after the other
 pub judged_is : (who : Who) (nodes : List Live) (c : ℤ) (m : SpawnMsg) → judged_beside who.scene nodes (length (rows_under c nodes)) c m ≡ shown_judged who nodes c m
@@ -45,16 +40,7 @@ judged_is who nodes c m =
     ∷ when (is_some (live_at nodes (shown_path who.scene m))) fault.NameTaken
     ∷ when (nat_le most_rows (length (rows_under c nodes))) fault.NodesFull
     ∷ when (wrong_spawn (syncs_at who.scene (shown_place who.scene m)) m) fault.WrongValues ∷ [] in
-    ap (first_some (meaning_judged who.scene c m)) (sym (first_join ids places)) ∙ sym (first_join meanings (ids ++ places))
-
--- an answer that isn't there, first
-pub no_first : {X : Type 0} (o : Option X) (rows : List (Option X)) → first_of (o ∷ rows) ≡ None → (o ≡ None) × (first_of rows ≡ None)
-no_first (Some x) rows h = absurd (cc h)
-no_first None rows h = (refl, h)
-
-pub unmapped : {X Y : Type 0} (f : X → Y) (o : Option X) → option_map f o ≡ None → o ≡ None
-unmapped f None h = refl
-unmapped f (Some x) h = absurd (cc h)
+    ap (first_some (meaning_judged who.scene c m)) (sym (first-append ids places)) ∙ sym (first-append meanings (ids ++ places))
 
 -- what is known of a spawn that is no fault
 pub record IsAdmitted (who : Who) (nodes : List Live) (c : ℤ) (m : SpawnMsg) : Type 0 where
@@ -76,7 +62,7 @@ admitted who nodes c m h =
     let j = no_row (is_some (live_at nodes (shown_path who.scene m))) fault.NameTaken _ i.1 in
     let k = no_row (nat_le most_rows (length (rows_under c nodes))) fault.NodesFull _ j.1 in
     let l = no_row (wrong_spawn (syncs_at who.scene (shown_place who.scene m)) m) fault.WrongValues [] k.1 in
-    record { meant = e.0; fresh = unmapped fault.KnownNet (first_known (known_ids (rows_under c nodes)) (m.net ∷ m.syncs)) g.0; free = j.0; room = k.0; values = l.0 }
+    record { meant = e.0; fresh = none_mapped fault.KnownNet (first_known (known_ids (rows_under c nodes)) (m.net ∷ m.syncs)) g.0; free = j.0; room = k.0; values = l.0 }
 
 none_of : (test : ℕ → Bool) (seen ids : List ℕ) → first_new test seen ids ≡ None → list_all (λ id. not (test id)) ids ≡ true
 none_of test seen [] h = refl

@@ -31,7 +31,7 @@ change_same test f (x ∷ xs) y h e = step (test x) (λ k. change_same test f xs
     step true more k = let same : x ≡ y = cc in ap (λ z. z ∷ xs) (ap f same ∙ e ∙ sym same)
     step false more k = ap (λ ys. x ∷ ys) (more k)
 
-none_from : {X : Type 0} (o : Option X) → is_some o ≡ false → o ≡ None
+pub none_from : {X : Type 0} (o : Option X) → is_some o ≡ false → o ≡ None
 none_from None h = refl
 none_from (Some x) h = absurd (cc h)
 

@@ -12,12 +12,12 @@ use Rattle.peer_model.specs.Refusals.{most_rows}
 use Rattle.headless_tree.specs.Nodes.{is_row_of, row_before}
 use Rattle.peer_laws.specs.Facts.{rows_under}
 use Rattle.peer_laws.proofs.Numbers.{int_is}
-use Rattle.peer_laws.proofs.Each.{all_weaker}
 use Rattle.peer_laws.proofs.Joined.{map-map, map_each}
 use Rattle.peer_core.specs.declared.links.Link.{Link}
 use Rattle.peer_core.specs.Links.{peers_of}
 use Rattle.peer_core.specs.Rights.{is_counted}
 use Rattle.peer_core.specs.Arrivals.{with_row, has_room, rows_counted}
+use Rattle.headless_tree.proofs.Order.{all_weaker}
 
 -- the links before a place count one row more, the others are as they were
 pub record IsCounting (c : ℤ) (old : List Link) (at : ℕ) (now : List Link) : Type 0 where

@@ -78,7 +78,7 @@ pub record IsShown (s : Scene) (place byte : ℕ) (ids name : List ℕ) (values 
   pub each_value : length values ≡ length (all_spawn_props (syncs_at s (Some place)))
   pub values_right : list_all is_right_value values ≡ true
 
-name_short : (name : List ℕ) → is_name name ≡ true → length name ≤ 64
+pub name_short : (name : List ℕ) → is_name name ≡ true → length name ≤ 64
 name_short name h = leb-true (length name) 64 (and_parts _ _ (and_parts _ _ h).0).1
 
 no_custom : (byte : ℕ) → byte < 255 → nat_eq byte 255 ≡ false

@@ -14,7 +14,7 @@ use Rattle.headless_tree.specs.Lists.{change_first}
 use Rattle.headless_tree.specs.Nodes.{TreeOf, is_at, is_spawned, is_row_of, row_before, without_rows, with_value, assigned}
 use Rattle.peer_laws.specs.Facts.{rows_under}
 use Rattle.peer_laws.specs.Shown.{spawned_live}
-use Rattle.peer_laws.proofs.Each.{all-put_by, all-filter, all_weaker}
+use Rattle.peer_laws.proofs.Each.{all-put_by, all-filter}
 use Rattle.peer_laws.proofs.Numbers.{int_same, int_is, int_comm}
 use Rattle.peer_model.specs.Rows.{count_from, syncs_at, spawned_scene}
 use Rattle.scene_model.specs.declared.event.SpawnOp.{SpawnOp}
@@ -26,14 +26,15 @@ use Rattle.peer_core.specs.Steps.{row_of_spawn}
 use Rattle.peer_core.specs.Sites.{MaySpawn, who_at, own_made, with_made, after_made}
 use Rattle.peer_core.proofs.SpawnMade.{spawn_values, spawn_row_right}
 use Rattle.peer_core.specs.Rights.{is_right_value, has_right_values, is_right_row, is_counted, has_come, is_known, is_before, AreRight}
+use Rattle.headless_tree.proofs.Order.{all_weaker}
 
 -- lists
 
-or_true : (a b : Bool) → b ≡ true → (a || b) ≡ true
+pub or_true : (a b : Bool) → b ≡ true → (a || b) ≡ true
 or_true true b h = refl
 or_true false b h = h
 
-or_left : (a b : Bool) → a ≡ true → (a || b) ≡ true
+pub or_left : (a b : Bool) → a ≡ true → (a || b) ≡ true
 or_left true b h = refl
 or_left false b h = absurd (cc h)
 

@@ -27,3 +27,4 @@ pub mod SoundRead
 pub mod RightAfter
 pub mod ReceivedParts
 pub mod PeerCalls
+pub mod Parents

@@ -1,5 +1,5 @@
 -- Numbers given one after the other.
-use Rattle.std.proofs.Common.{◌≡◌, ℕ, zero, suc, ◌+◌, ◌<◌, List, [], ◌∷◌, ◌++◌, refl, sym, ap, ap₂, ◌∙◌, take, length, arith}
+use Rattle.std.proofs.Common.{◌≡◌, ℕ, zero, suc, ◌+◌, ◌<◌, List, [], ◌∷◌, ◌++◌, sym, ap, ap₂, ◌∙◌, take, length, arith}
 use Rattle.peer_model.specs.Rows.{count_from}
 
 count_next : {X : Type 0} (n i : ℕ) (xs : List X) → i < length xs → count_from n (take (suc i) xs) ≡ count_from n (take i xs) ++ (n + i) ∷ []
@@ -25,7 +25,3 @@ count_step n i next xs ids more h a b e = (e ∙ ap₂ (λ ks k. ks ++ k ∷ [])
   where
     moved : (m k : ℕ) → m + k + 1 ≡ m + (k + 1)
     moved m k = omega arith
-
-pub length-count : {X : Type 0} (n : ℕ) (xs : List X) → length (count_from n xs) ≡ length xs
-length-count n [] = refl
-length-count n (x ∷ xs) = ap (λ k. suc k) (length-count (n + 1) xs)

@@ -27,6 +27,7 @@ use Rattle.peer_laws.proofs.Ups.{has_up, up_is_direct}
 use Rattle.peer_laws.proofs.Rows.{rows_all}
 use Rattle.peer_core.specs.Kept.{kept_row}
 use Rattle.peer_core.specs.Steps.{row_packet, sent_to, open_rows}
+use Rattle.peer_core.proofs.KeptRight.{or_true, or_left}
 
 -- whether a row was made by a spawn without an argument
 abbrev pub is_plain_row : OwnRow → Bool
@@ -91,17 +92,9 @@ shown_where_open form who nodes r plain bs direct false = refl
 
 -- packets go directly to the peers that are up
 
-or_first : (a b : Bool) → a ≡ true → (a || b) ≡ true
-or_first true b h = refl
-or_first false b h = absurd (cc h)
-
-or_second : (a b : Bool) → b ≡ true → (a || b) ≡ true
-or_second true b h = refl
-or_second false b h = h
-
 all_of : (p : ℤ → Bool) (bs : List ℤ) → ((b : ℤ) → has_int b bs ≡ true → p b ≡ true) → list_all p bs ≡ true
 all_of p [] h = refl
-all_of p (b ∷ bs) h = and_from (p b) (list_all p bs) (h b (or_first (int_eq b b) (has_int b bs) (int_same b))) (all_of p bs (λ c k. h c (or_second (int_eq c b) (has_int c bs) k)))
+all_of p (b ∷ bs) h = and_from (p b) (list_all p bs) (h b (or_left (int_eq b b) (has_int b bs) (int_same b))) (all_of p bs (λ c k. h c (or_true (int_eq c b) (has_int c bs) k)))
 
 pub all_direct : (who : Who) (es : List Heard) → AllAccepted who es → list_all (is_direct who) (peers_up es) ≡ true
 all_direct who es all = all_of (is_direct who) (peers_up es) (λ b h. up_is_direct who es all b (sym (has_up es b) ∙ h))

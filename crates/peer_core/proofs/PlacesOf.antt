@@ -1,6 +1,6 @@
 -- Places of texts, and how many entries a valid scene has.
 use Rattle.std.proofs.Common.{◌≡◌, ℕ, suc, ◌+◌, ◌<◌, ◌≤◌, inl, inr, Bool, true, false, cond, not, List, [], ◌∷◌, ◌++◌, refl, sym, ap, ◌∙◌, length, map, nat_lt, nat_le, Option, Some, None, arith, length-append}
-use Rattle.std.specs.Prelude.{position, option_map}
+use Rattle.std.specs.Prelude.{position, option_map, find, slice_get}
 use Rattle.std.specs.List.{position_or_len}
 use Rattle.std.proofs.lemmas.Bool.{cases_lt, lt-ltb, le-ltb, or_parts}
 use Rattle.std.proofs.lemmas.Bool.Decides.{nat_tests}
@@ -9,10 +9,11 @@ use Rattle.scene_model.specs.declared.scene.Scene.{Scene}
 use Rattle.scene_model.specs.declared.scene.Node.{Node}
 use Rattle.scene_model.specs.declared.scene.SceneDef.{SceneDef}
 use Rattle.scene_model.specs.declared.scene.SceneWhy.{SceneWhy}
-use Rattle.scene_model.specs.Lookup.{fixed_path_id, scene_place}
+use Rattle.scene_model.specs.Lookup.{fixed_path_id, scene_place, fixed_node}
 use Rattle.scene_model.specs.Valid.{IsValidScene, node_why, scene_why, most_entries}
-use Rattle.headless_tree.proofs.Places.{position-map}
+use Rattle.headless_tree.proofs.Places.{position-map, found_at, not_found}
 use Rattle.peer_laws.proofs.Scenes.{EachRight, nodes_right, scenes_right, right_node, right_def}
+use Rattle.scene_model.proofs.TextLaws.{text_eq-sym}
 
 past_first : (n m : ℕ) → option_map (λ k. k + 1) (cond (nat_lt n m) (Some n) None) ≡ cond (nat_lt (1 + n) (suc m)) (Some (1 + n)) None
 past_first n m = elim (cases_lt n m) [
@@ -37,8 +38,19 @@ pub place_by_key : {X : Type 0} (key : X → List ℕ) (t : List ℕ) (xs : List
 place_by_key key t xs = position-map key (λ x. text_eq t (key x)) (text_eq t) (λ x. refl) xs ∙ sym (place_is_position t (map key xs))
 
 -- the path id of a node that a call found
-pub id_found : (s : Scene) (path : List ℕ) (nodes : List Node) (r : Option ℕ) → r ≡ position (λ (n : Node). text_eq path n.path) nodes → nodes ≡ s.nodes → or_else (option_map (λ i. i + 1) r) 0 ≡ or_else (fixed_path_id s path) 0
-id_found s path nodes r p same = ap (λ o. or_else (option_map (λ i. i + 1) o) 0) (p ∙ ap (position (λ (n : Node). text_eq path n.path)) same ∙ place_by_key (λ (n : Node). n.path) path s.nodes)
+pub id_found : (s : Scene) (path told : List ℕ) (r : Option ℕ) → r ≡ position (λ (n : Node). text_eq told n.path) s.nodes → told ≡ path → or_else (option_map (λ i. i + 1) r) 0 ≡ or_else (fixed_path_id s path) 0
+id_found s path told r p same = ap (λ o. or_else (option_map (λ i. i + 1) o) 0) (p ∙ ap (λ t. position (λ (n : Node). text_eq t n.path) s.nodes) same ∙ place_by_key (λ (n : Node). n.path) path s.nodes)
+
+at_path : (s : Scene) (path : List ℕ) → find (λ (n : Node). text_eq path n.path) s.nodes ≡ fixed_node s path
+at_path s path = let same : (λ (n : Node). text_eq path n.path) ≡ (λ (n : Node). text_eq n.path path) = λ i n. text_eq-sym path n.path i in ap (λ (p : Node → Bool). find p s.nodes) same
+
+-- the fixed node at the place that a call found
+pub node_found : (s : Scene) (path told : List ℕ) (i : ℕ) → told ≡ path → position (λ (n : Node). text_eq told n.path) s.nodes ≡ Some i → slice_get s.nodes i ≡ fixed_node s path
+node_found s path told i same h = found_at (λ (n : Node). text_eq told n.path) s.nodes i h ∙ at_path s told ∙ ap (fixed_node s) same
+
+-- there is none where it found no place
+pub node_missing : (s : Scene) (path told : List ℕ) → told ≡ path → position (λ (n : Node). text_eq told n.path) s.nodes ≡ None → None ≡ fixed_node s path
+node_missing s path told same h = sym (not_found (λ (n : Node). text_eq told n.path) s.nodes h) ∙ at_path s told ∙ ap (fixed_node s) same
 
 -- the place of a scene that a call found
 pub scene_found : (s : Scene) (name : List ℕ) (defs : List SceneDef) (r : Option ℕ) → r ≡ position (λ (d : SceneDef). text_eq name d.name) defs → defs ≡ s.scenes → r ≡ scene_place s name

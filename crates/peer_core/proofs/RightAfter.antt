@@ -1,33 +1,25 @@
 -- What is right of all that a peer keeps is right after a received spawn.
-use Rattle.std.proofs.Common.{◌≡◌, ℕ, ℤ, Bool, true, false, cond, not, ◌&&◌, ◌||◌, List, [], ◌∷◌, refl, sym, ap, subst, ◌∙◌, map, Option, Some, None, nat_le, nat_lt, arith}
-use Rattle.std.specs.Prelude.{zip, option_and_then}
-use Rattle.std.specs.List.{list_all, list_any}
+use Rattle.std.proofs.Common.{◌≡◌, ℕ, ℤ, Bool, true, false, not, ◌&&◌, ◌||◌, List, [], ◌∷◌, refl, sym, ap, subst, ◌∙◌, map, Option, Some, None, nat_lt}
+use Rattle.std.specs.Prelude.{zip}
+use Rattle.std.specs.List.{list_all}
 use Rattle.std.specs.Ordering.{int_eq}
-use Rattle.std.proofs.lemmas.Bool.Decides.{nat_tests}
-use Rattle.std.proofs.lemmas.Bool.{and_parts, and_from, or_parts}
+use Rattle.std.proofs.lemmas.Bool.{and_parts, and_from}
 use Rattle.std.proofs.lemmas.List.Folds.{list_all-map}
-use Rattle.gd_variant.specs.Words.{text_eq, has_int, put_by}
-use Rattle.gd_variant.specs.Size.{value_size}
+use Rattle.gd_variant.specs.Words.{has_int, put_by}
 use Rattle.gd_variant.specs.Sound.{is_sound}
 use Rattle.gd_variant.specs.declared.value.Variant.{Variant}
-use Rattle.scene_model.specs.declared.scene.Scene.{Scene}
-use Rattle.scene_model.specs.declared.scene.SceneDef.{SceneDef}
 use Rattle.scene_model.specs.declared.scene.Prop.{Prop}
 use Rattle.scene_model.specs.declared.spawn.SpawnMsg.{SpawnMsg}
-use Rattle.scene_model.specs.Lookup.{scene_at}
-use Rattle.scene_model.specs.Valid.{IsValidScene, scene_why, value_long}
+use Rattle.scene_model.specs.Valid.{IsValidScene}
 use Rattle.peer_model.specs.Heard.{Who}
 use Rattle.peer_model.specs.Rows.{syncs_at}
-use Rattle.peer_model.specs.Values.{props_in}
 use Rattle.peer_model.specs.Updates.{Live, assign, assign_all, assign_argument, custom_prop, shown_node, shown_place, shown_props, shown_spawn_props}
 use Rattle.peer_model.specs.View.{fits}
 use Rattle.peer_model.specs.Refusals.{argument_fits}
 use Rattle.headless_tree.specs.Nodes.{TreeOf, is_spawned, is_row_of, row_before}
-use Rattle.headless_tree.proofs.Numbered.{all_at}
-use Rattle.peer_laws.proofs.Tests.{not_false}
-use Rattle.peer_laws.proofs.Each.{all_weaker, all-put_by, all_both, all_has}
+use Rattle.peer_laws.proofs.Each.{all-put_by, all_both, all_has}
 use Rattle.peer_laws.proofs.Numbers.{int_is}
-use Rattle.peer_laws.proofs.Scenes.{all_right, right_def, scenes_right, shown_is_placed}
+use Rattle.peer_laws.proofs.Scenes.{shown_is_placed}
 use Rattle.peer_core.specs.declared.links.Link.{Link}
 use Rattle.peer_core.specs.declared.rows.SpawnedRow.{SpawnedRow}
 use Rattle.peer_core.specs.Links.{peers_of}
@@ -35,55 +27,20 @@ use Rattle.peer_core.specs.Rights.{AreRight, is_right_value, are_right, has_righ
 use Rattle.peer_core.specs.Arrivals.{is_sound_argument, is_sound_spawn, with_row}
 use Rattle.peer_core.proofs.Admitted.{IsAdmitted, values_short, argument_short}
 use Rattle.peer_core.proofs.Counted.{row_peer, still_counted}
+use Rattle.peer_core.proofs.SpawnMade.{defaults_right, assign_right}
+use Rattle.headless_tree.proofs.Order.{all_weaker}
 
 -- values
-
-short_from : (v : Variant) → nat_lt 65536 (value_size v) ≡ false → fits v ≡ true
-short_from v h = sized (value_size v) h
-  where
-    sized : (n : ℕ) → nat_lt 65536 n ≡ false → nat_le n 65536 ≡ true
-    sized n h = grind (arith, nat_tests)
-
-default_right : (p : Prop) → value_long p ≡ false → is_right_value p.value ≡ true
-default_right p h =
-    let parts = or_parts (not (is_sound p.value)) (nat_lt 65536 (value_size p.value)) h in
-    and_from (is_sound p.value) (fits p.value) (not_false (is_sound p.value) parts.0) (short_from p.value parts.1)
-
-defaults_right : (props : List Prop) → list_any value_long props ≡ false → are_right props ≡ true
-defaults_right [] h = refl
-defaults_right (p ∷ ps) h =
-    let parts = or_parts (value_long p) (list_any value_long ps) h in
-    and_from (is_right_value p.value) (are_right ps) (default_right p parts.0) (defaults_right ps parts.1)
-
--- the defaults of a scene are right
-pub place_right : (s : Scene) → IsValidScene s → (place : Option ℕ) → are_right (props_in (option_and_then (scene_at s) place)) ≡ true
-place_right s v None = refl
-place_right s v (Some place) = step (scene_at s place) refl
-  where
-    step : (o : Option SceneDef) → scene_at s place ≡ o → are_right (props_in o) ≡ true
-    step None e = refl
-    step (Some d) e = all_at (λ (d : SceneDef). are_right d.props) s.scenes place d e (all_right scene_why (λ (d : SceneDef). are_right d.props) (λ earlier d h. defaults_right d.props (right_def earlier d h).short) [] s.scenes (scenes_right s v))
-
--- an assignment of a right value keeps properties right
-pub assign_right : (name : List ℕ) (value : Variant) → is_right_value value ≡ true → (props : List Prop) → are_right props ≡ true → are_right (assign name value props) ≡ true
-assign_right name value right [] h = refl
-assign_right name value right (p ∷ ps) h =
-    let parts = and_parts (is_right_value p.value) (are_right ps) h in
-    and_from _ (are_right (assign name value ps)) (step (text_eq p.name name) parts.0) (assign_right name value right ps parts.1)
-  where
-    step : (b : Bool) → is_right_value p.value ≡ true → is_right_value (cond b (record p { value = value }) p).value ≡ true
-    step true k = right
-    step false k = k
 
 pub assign_all_right : (names : List (List ℕ)) (values : List Variant) (props : List Prop) → list_all is_right_value values ≡ true → are_right props ≡ true → are_right (assign_all (zip names values) props) ≡ true
 assign_all_right [] values props right h = h
 assign_all_right (name ∷ names) [] props right h = h
 assign_all_right (name ∷ names) (value ∷ values) props right h =
     let parts = and_parts (is_right_value value) (list_all is_right_value values) right in
-    assign_all_right names values (assign name value props) parts.1 (assign_right name value parts.0 props h)
+    assign_all_right names values (assign name value props) parts.1 (assign_right name value props parts.0 h)
 
 pub argument_right : (name : Option (List ℕ)) (arg : Option Variant) (props : List Prop) → is_sound_argument arg ≡ true → argument_fits arg ≡ true → are_right props ≡ true → are_right (assign_argument name arg props) ≡ true
-argument_right (Some name) (Some value) props sound short h = assign_right name value (and_from (is_sound value) (fits value) sound short) props h
+argument_right (Some name) (Some value) props sound short h = assign_right name value props (and_from (is_sound value) (fits value) sound short) h
 argument_right (Some name) None props sound short h = h
 argument_right None arg props sound short h = h
 
@@ -95,7 +52,7 @@ shown_right who v nodes c m a h =
     let sound = and_parts (is_sound_argument m.arg) (list_all is_sound m.values) h in
     assign_all_right (shown_spawn_props s m) m.values (assign_argument (custom_prop s m.spawner) m.arg (shown_props s m))
     (all_both is_sound fits m.values sound.1 (values_short defs m a.values))
-    (argument_right (custom_prop s m.spawner) m.arg (shown_props s m) sound.0 (argument_short defs m a.values) (place_right s v (shown_place s m)))
+    (argument_right (custom_prop s m.spawner) m.arg (shown_props s m) sound.0 (argument_short defs m a.values) (defaults_right s v (shown_place s m)))
 
 -- peers
 

@@ -48,7 +48,7 @@ assign_once name value props apart = change_once (λ (p : Prop). p.name) name (w
 abbrev set_one : List ℕ → Variant → Live → Live
 set_one name value n = record n { values = assign name value n.values }
 
-one_setting : (n : Live) (nodes : List Live) (name : List ℕ) (value : Variant) → live_at nodes n.path ≡ None → has_twice (prop_names n.values) ≡ false
+pub one_setting : (n : Live) (nodes : List Live) (name : List ℕ) (value : Variant) → live_at nodes n.path ≡ None → has_twice (prop_names n.values) ≡ false
     → assigned n.path name value (put_by row_before n nodes) ≡ put_by row_before (set_one name value n) nodes
 one_setting n nodes name value free apart =
     change_put (is_at n.path) (λ (m : Live). record m { values = change_first (λ (p : Prop). text_eq p.name name) (with_value value) m.values }) row_before n nodes free (text_eq-same n.path) (λ y. refl)

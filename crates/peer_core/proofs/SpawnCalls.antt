@@ -14,8 +14,8 @@ use Rattle.peer_core.specs.declared.rows.SpawnedRow.{SpawnedRow}
 use Rattle.peer_core.specs.declared.spawning.Site.{Site}
 use Rattle.peer_core.specs.Rights.{has_right_values, is_right_row}
 use Rattle.peer_core.specs.Sites.{MaySpawn, who_at, own_made, with_made, after_made, site_row, with_settings}
-use Rattle.peer_core.proofs.Numbering.{length-count}
 use Rattle.peer_core.proofs.SpawnMade.{spawn_within, spawn_new, spawn_row, spawn_nodes, spawn_values, spawn_row_right}
+use Rattle.peer_laws.proofs.Sight.{length-count_from}
 
 -- the row as its parts were made of the scene that a call showed
 pub row_told : (s shown : Scene) (num : ℕ) (o : SpawnOp) (x : Site) (r : SpawnedRow) → shown ≡ s → r ≡ site_row shown num o x → r ≡ site_row s num o x
@@ -48,7 +48,7 @@ made_right id old new num o x r m e h = ap₂ (λ (t : TreeOf) q. is_right_row t
 
 -- how many numbers the synchronizers of a row took
 pub made_count : (id : ℤ) (s : Scene) (num n : ℕ) (o : SpawnOp) (r : SpawnedRow) → r ≡ own_made id s num o → n ≡ length r.ids → n ≡ length (syncs_at s (spawned_scene (who_at id s) o))
-made_count id s num n o r e h = h ∙ ap (λ (q : SpawnedRow). length q.ids) e ∙ length-count (num + 1) (syncs_at s (spawned_scene (who_at id s) o))
+made_count id s num n o r e h = h ∙ ap (λ (q : SpawnedRow). length q.ids) e ∙ length-count_from (num + 1) (syncs_at s (spawned_scene (who_at id s) o))
 
 pub made_next : (id : ℤ) (s : Scene) (num n : ℕ) (o : SpawnOp) (r : SpawnedRow) → r ≡ own_made id s num o → n ≡ length r.ids → num + 1 + n ≡ after_made id s num o
 made_next id s num n o r e h = ap (λ k. num + 1 + k) (made_count id s num n o r e h)

@@ -26,12 +26,11 @@ use Rattle.peer_model.specs.Changes.{scene_byte}
 use Rattle.peer_model.specs.Refusals.{most_rows, most_net_id, owns, may_make}
 use Rattle.headless_tree.specs.Nodes.{row_before, spawned_node, is_row_of}
 use Rattle.headless_tree.specs.Numbers.{has_number, is_new, are_new}
-use Rattle.headless_tree.proofs.Numbered.{all_at}
+use Rattle.headless_tree.proofs.Numbered.{all_at, and_true}
 use Rattle.peer_core.specs.Rights.{is_right_value, are_right, has_right_values, is_before, is_right_row}
 use Rattle.peer_laws.specs.Shown.{spawned_live, settings}
-use Rattle.peer_laws.proofs.Tests.{no_row, not_false}
+use Rattle.peer_laws.proofs.Tests.{no_row, not_false, first_none, some_of}
 use Rattle.peer_laws.proofs.Each.{all-put_by}
-use Rattle.peer_core.proofs.Numbering.{length-count}
 use Rattle.peer_laws.proofs.Scenes.{scene_props_apart, all_right, scenes_right, right_def, named_at_is_placed}
 use Rattle.peer_core.specs.declared.rows.SpawnedRow.{SpawnedRow}
 use Rattle.peer_core.specs.declared.spawning.Site.{Site}
@@ -41,10 +40,8 @@ use Rattle.peer_core.specs.Steps.{row_of_spawn}
 use Rattle.peer_core.specs.Sites.{IsSite, IsWelcome, MaySpawn, byte_in, has_short, sets_judged, argument_judged, values_judged, room_judged, rest_judged, spawner_judged, name_judged, with_settings, site_row, props_at}
 use Rattle.peer_core.proofs.SpawnParts.{spawn_in_parts, path_of_spawn, scene_of_spawn, few_scenes}
 use Rattle.peer_core.proofs.Settled.{settled}
-
-neither_answer : {X : Type 0} (a b : Option X) → first_some a b ≡ None → (a ≡ None) × (b ≡ None)
-neither_answer None b h = (refl, h)
-neither_answer (Some x) b h = absurd (cc h)
+use Rattle.peer_core.proofs.Assigned.{none_from}
+use Rattle.peer_laws.proofs.Sight.{length-count_from}
 
 -- settings that aren't refused are short
 pub sets_short : (props sets : List Prop) → sets_judged props sets ≡ None → list_all has_short sets ≡ true
@@ -58,10 +55,6 @@ sets_short props (p ∷ ps) h =
     both_true true b p q = q
     both_true false b p q = absurd (cc p)
 
-none_from : {X : Type 0} (o : Option X) → is_some o ≡ false → o ≡ None
-none_from None h = refl
-none_from (Some x) h = absurd (cc h)
-
 within_ids : (n : ℕ) → nat_lt most_net_id n ≡ false → n ≤ 2147483647
 within_ids n h = grind (arith, nat_tests)
 
@@ -72,15 +65,15 @@ welcome_by : (who : Who) (nodes : List Live) (rows : List SpawnedRow) (next : �
 welcome_by who nodes rows next o None n found named there made rest = absurd (cc made)
 welcome_by who nodes rows next o (Some d) None found named there made rest = absurd (cc there)
 welcome_by who nodes rows next o (Some d) (Some t) found named there made rest =
-    let name_rest = neither_answer (name_judged nodes o.name (spawned_path who o)) (rest_judged who.scene rows next (Some d) o (spawned_scene who o)) rest in
+    let name_rest = first_none (name_judged nodes o.name (spawned_path who o)) (rest_judged who.scene rows next (Some d) o (spawned_scene who o)) rest in
     let name = no_row (not (is_name o.name)) BadName _ name_rest.0 in
     let free = no_row (is_some (live_at nodes (spawned_path who o))) NameTaken [] name.1 in
     let ids_row = when (nat_lt most_net_id (next + length (syncs_at who.scene (spawned_scene who o)))) NetIdsFull ∷ [] in
-    let room_values = neither_answer (room_judged rows next o.spawner (Some d) (length (syncs_at who.scene (spawned_scene who o)))) (values_judged who.scene (spawned_scene who o) o) name_rest.1 in
+    let room_values = first_none (room_judged rows next o.spawner (Some d) (length (syncs_at who.scene (spawned_scene who o)))) (values_judged who.scene (spawned_scene who o) o) name_rest.1 in
     let limit = no_row (some_is (is_at_limit rows o.spawner) (Some d)) SpawnLimit (when (nat_le most_rows (length rows)) NodesFull ∷ ids_row) room_values.0 in
     let full = no_row (nat_le most_rows (length rows)) NodesFull ids_row limit.1 in
     let ids = no_row (nat_lt most_net_id (next + length (syncs_at who.scene (spawned_scene who o)))) NetIdsFull [] full.1 in
-    let values = neither_answer (sets_judged (props_at who.scene (spawned_scene who o)) o.sets) (argument_judged o.arg) room_values.1 in
+    let values = first_none (sets_judged (props_at who.scene (spawned_scene who o)) o.sets) (argument_judged o.arg) room_values.1 in
     record {
       spawner = d;
       scene = t;
@@ -101,7 +94,7 @@ welcome who nodes rows next o there h =
     let d = spawner_at who.scene o.spawner in
     let made_row = when (not (some_is (may_make o) d)) NoScene ∷ [] in
     let owned_row = when (not (owns who (live_at nodes o.spawner))) NotAuthority ∷ made_row in
-    let parts = neither_answer (spawner_judged who nodes d o) (first_some (name_judged nodes o.name (spawned_path who o)) (rest_judged who.scene rows next d o (spawned_scene who o))) (sym (spawn_in_parts who nodes rows next o) ∙ h) in
+    let parts = first_none (spawner_judged who nodes d o) (first_some (name_judged nodes o.name (spawned_path who o)) (rest_judged who.scene rows next d o (spawned_scene who o))) (sym (spawn_in_parts who nodes rows next o) ∙ h) in
     let node = no_row (is_none (live_at nodes o.spawner)) NoNode (when (is_none d) NoSpawner ∷ owned_row) parts.0 in
     let spawner = no_row (is_none d) NoSpawner owned_row node.1 in
     let owned = no_row (not (owns who (live_at nodes o.spawner))) NotAuthority made_row spawner.1 in
@@ -123,10 +116,6 @@ place_below t (u ∷ us) other h = step (text_eq t u) (λ k. below (place_of t u
 
 -- where the node goes, and what it is made of
 
-some_of : {X : Type 0} (o : Option X) → is_some o ≡ true → (x : X) × (o ≡ Some x)
-some_of None h = absurd (cc h)
-some_of (Some x) h = (x, refl)
-
 pub record IsPlaced (who : Who) (o : SpawnOp) (x : Site) : Type 0 where
   pub at : ℕ
   pub here : x.place ≡ Some at
@@ -144,7 +133,7 @@ same_place who o x p = p.here ∙ sym p.made
 site_path : (who : Who) (o : SpawnOp) (x : Site) → IsSite who.scene (spawner_at who.scene o.spawner) o x → x.path ≡ spawned_path who o
 site_path who o x site = site.path ∙ sym (path_of_spawn who o)
 
-site_below : (who : Who) (o : SpawnOp) (x : Site) → IsSite who.scene (spawner_at who.scene o.spawner) o x → joined x.under o.name ≡ spawned_path who o
+pub site_below : (who : Who) (o : SpawnOp) (x : Site) → IsSite who.scene (spawner_at who.scene o.spawner) o x → joined x.under o.name ≡ spawned_path who o
 site_below who o x site = ap (λ u. joined u o.name) site.under ∙ sym (path_of_spawn who o)
 
 byte_by : (who : Who) (r : OwnRow) (n : Option (List ℕ)) → r.made_by.scene ≡ n → scene_byte who r ≡ byte_in n (spawner_at who.scene r.made_by.spawner)
@@ -175,15 +164,11 @@ made_nodes who nodes next o x v w p site =
 
 -- properties with right values
 
-all_and : (a b : Bool) → a ≡ true → b ≡ true → (a && b) ≡ true
-all_and true b p q = q
-all_and false b p q = absurd (cc p)
-
 pub assign_right : (name : List ℕ) (v : Variant) (props : List Prop) → is_right_value v ≡ true → are_right props ≡ true → are_right (assign name v props) ≡ true
 assign_right name v [] right h = refl
 assign_right name v (p ∷ ps) right h =
     let parts = and_parts (is_right_value p.value) (are_right ps) h in
-    all_and _ (are_right (assign name v ps)) (one (text_eq p.name name) parts.0) (assign_right name v ps right parts.1)
+    and_true _ (are_right (assign name v ps)) (one (text_eq p.name name) parts.0) (assign_right name v ps right parts.1)
   where
     one : (b : Bool) → is_right_value p.value ≡ true → is_right_value (let q : Prop = if b then record p { value = v } else p in q.value) ≡ true
     one true k = right
@@ -196,14 +181,14 @@ settings_right (p ∷ ps) props h k = let parts = and_parts (is_right_value p.va
 not_long_right : (p : Prop) → value_long p ≡ false → is_right_value p.value ≡ true
 not_long_right p h =
     let parts = or_parts (not (is_sound p.value)) (nat_lt 65536 (value_size p.value)) h in
-    all_and (is_sound p.value) (fits p.value) (not_false (is_sound p.value) parts.0) (short (value_size p.value) parts.1)
+    and_true (is_sound p.value) (fits p.value) (not_false (is_sound p.value) parts.0) (short (value_size p.value) parts.1)
   where
     short : (n : ℕ) → nat_lt 65536 n ≡ false → nat_le n 65536 ≡ true
     short n k = grind (arith, nat_tests)
 
 pub none_long : (props : List Prop) → list_any value_long props ≡ false → are_right props ≡ true
 none_long [] h = refl
-none_long (p ∷ ps) h = let parts = or_parts (value_long p) (list_any value_long ps) h in all_and (is_right_value p.value) (are_right ps) (not_long_right p parts.0) (none_long ps parts.1)
+none_long (p ∷ ps) h = let parts = or_parts (value_long p) (list_any value_long ps) h in and_true (is_right_value p.value) (are_right ps) (not_long_right p parts.0) (none_long ps parts.1)
 
 defs_right : (s : Scene) → IsValidScene s → list_all (λ (d : SceneDef). are_right d.props) s.scenes ≡ true
 defs_right s v = all_right scene_why (λ (d : SceneDef). are_right d.props) (λ earlier d h. none_long d.props (right_def earlier d h).short) [] s.scenes (scenes_right s v)
@@ -243,10 +228,10 @@ is_later id k next nodes le h = ap not (none_of nodes h)
 
 ids_later : {X : Type 0} (id : ℤ) (k next : ℕ) (xs : List X) (nodes : List Live) → next ≤ k → list_all (is_before id next) nodes ≡ true → list_all (is_new id nodes) (count_from k xs) ≡ true
 ids_later id k next [] nodes le h = refl
-ids_later id k next (x ∷ xs) nodes le h = all_and (is_new id nodes k) (list_all (is_new id nodes) (count_from (k + 1) xs)) (is_later id k next nodes le h) (ids_later id (k + 1) next xs nodes (omega (arith, le)) h)
+ids_later id k next (x ∷ xs) nodes le h = and_true (is_new id nodes k) (list_all (is_new id nodes) (count_from (k + 1) xs)) (is_later id k next nodes le h) (ids_later id (k + 1) next xs nodes (omega (arith, le)) h)
 
 pub numbers_new : {X : Type 0} (id : ℤ) (next : ℕ) (xs : List X) (nodes : List Live) → list_all (is_before id next) nodes ≡ true → are_new id next (count_from (next + 1) xs) nodes ≡ true
-numbers_new id next xs nodes h = all_and (is_new id nodes next) (list_all (is_new id nodes) (count_from (next + 1) xs)) (is_later id next next nodes (omega arith) h) (ids_later id (next + 1) next xs nodes (omega arith) h)
+numbers_new id next xs nodes h = and_true (is_new id nodes next) (list_all (is_new id nodes) (count_from (next + 1) xs)) (is_later id next next nodes (omega arith) h) (ids_later id (next + 1) next xs nodes (omega arith) h)
 
 -- what a call that makes a spawn needs
 
@@ -292,9 +277,9 @@ module _ (who : Who) (nodes : List Live) (next : ℕ) (o : SpawnOp) (x : Site) (
       subst (λ k. k < 255) (sym byte) (omega (arith, listed, few))
 
   pub spawn_row_right : is_right_row who.scene (kept_row who (row_of_spawn who next o)) ≡ true
-  spawn_row_right = all_and _ _
-      (all_and (is_name o.name) _ m.welcome.name (same_nat _ _ (length-count (next + 1) (syncs_at who.scene (spawned_scene who o)) ∙ sym (ap length same_syncs))))
-      (all_and (nat_lt (scene_byte who (row_of_spawn who next o)) 255) (nat_lt (or_else (spawned_scene who o) 0) (length who.scene.scenes)) (lt_is _ _ byte_below) (lt_is _ _ (subst (λ p. or_else p 0 < length who.scene.scenes) (same_place who o x it_is_placed) spawn_within)))
+  spawn_row_right = and_true _ _
+      (and_true (is_name o.name) _ m.welcome.name (same_nat _ _ (length-count_from (next + 1) (syncs_at who.scene (spawned_scene who o)) ∙ sym (ap length same_syncs))))
+      (and_true (nat_lt (scene_byte who (row_of_spawn who next o)) 255) (nat_lt (or_else (spawned_scene who o) 0) (length who.scene.scenes)) (lt_is _ _ byte_below) (lt_is _ _ (subst (λ p. or_else p 0 < length who.scene.scenes) (same_place who o x it_is_placed) spawn_within)))
     where
       same_nat : (a b : ℕ) → a ≡ b → nat_eq a b ≡ true
       same_nat a b e = grind (arith, nat_tests)

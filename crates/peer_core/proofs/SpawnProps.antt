@@ -1,5 +1,5 @@
 -- A scene that can be spawned has few synchronizers and spawn properties.
-use Rattle.std.proofs.Common.{◌≡◌, ℕ, ◌≤◌, Bool, true, false, cond, not, ◌&&◌, ◌||◌, List, [], ◌∷◌, refl, ◌∙◌, length, filter, Option, Some, None, arith}
+use Rattle.std.proofs.Common.{◌≡◌, ℕ, ◌≤◌, Bool, true, false, not, ◌&&◌, ◌||◌, List, [], ◌∷◌, refl, ◌∙◌, length, filter, Option, Some, None, arith}
 use Rattle.std.specs.Prelude.{flat_map, nat_le, nat_lt}
 use Rattle.std.specs.List.{list_any, list_all}
 use Rattle.std.proofs.lemmas.Bool.{le-leb, leb-true, ltb-false, and_parts, and_from, or_parts}
@@ -19,14 +19,7 @@ use Rattle.peer_model.specs.Updates.{all_spawn_props}
 use Rattle.headless_tree.proofs.Numbered.{all_at}
 use Rattle.peer_laws.proofs.Scenes.{IsRightDef, right_def, all_right, scenes_right}
 use Rattle.peer_core.proofs.Distinct.{some_outside, distinct_few}
-
-kept_few : {X : Type 0} (p : X → Bool) (xs : List X) → length (filter p xs) ≤ length xs
-kept_few p [] = omega arith
-kept_few p (x ∷ xs) = step (p x) (kept_few p xs)
-  where
-    step : (b : Bool) → length (filter p xs) ≤ length xs → length (cond b (x ∷ filter p xs) (filter p xs)) ≤ length (x ∷ xs)
-    step true le = omega (arith, le)
-    step false le = omega (arith, le)
+use Rattle.peer_laws.proofs.Filters.{kept_length}
 
 joined_few : {X Y : Type 0} (f g : X → List Y) → ((x : X) → length (f x) ≤ length (g x)) → (xs : List X) → length (flat_map f xs) ≤ length (flat_map g xs)
 joined_few f g each [] = omega arith
@@ -37,7 +30,7 @@ spawn_props_few d = omega (
   arith,
   length-map (filter (λ (p : SyncProp). p.spawn) d.props) (λ (p : SyncProp). p.prop),
   length-map d.props (λ (p : SyncProp). p.prop),
-  kept_few (λ (p : SyncProp). p.spawn) d.props,
+  kept_length (λ (p : SyncProp). p.spawn) d.props,
 )
 
 -- the properties that synchronizers name are those of their scene

@@ -151,10 +151,10 @@ set_is_right id path prop value come links t new next rows a sound is judged n r
     subst (λ (s : TreeOf). AreRight id come links s next rows) (sym (n ∙ ap (λ b. record t { nodes = set_nodes b path prop value t.nodes }) is))
     (right_set id path prop value come links t next rows (right_value value sound (set_fits id t.scene t.nodes path prop value (sym judged ∙ is))) r)
 
-pub may_spawn : (id : ℤ) (s told : Scene) (nodes : List Live) (next : ℕ) (rows shown : List SpawnedRow) (o : SpawnOp) (x : Site) (a : Option Refusal) → IsValidScene s → list_all has_right_values nodes ≡ true → list_all (is_before id next) nodes ≡ true
-    → is_some o.scene ≡ true → list_all (λ (p : Prop). is_sound p.value) o.sets ≡ true → told ≡ s → IsSite told (spawner_at told o.spawner) o x → IfSome x.place (λ i. i < length told.scenes)
+pub may_spawn : (id : ℤ) (s : Scene) (nodes : List Live) (next : ℕ) (rows shown : List SpawnedRow) (o : SpawnOp) (x : Site) (a : Option Refusal) → IsValidScene s → list_all has_right_values nodes ≡ true → list_all (is_before id next) nodes ≡ true
+    → is_some o.scene ≡ true → list_all (λ (p : Prop). is_sound p.value) o.sets ≡ true → IsSite s (spawner_at s o.spawner) o x → IfSome x.place (λ i. i < length s.scenes)
     → a ≡ None → a ≡ spawn_judged (who_at id s) nodes shown next o → MaySpawn (who_at id s) nodes next o x
-may_spawn id s told nodes next rows shown o x a valid values before scene sound same site within is judged =
+may_spawn id s nodes next rows shown o x a valid values before scene sound site within is judged =
     let w = welcome (who_at id s) nodes shown next o scene (sym judged ∙ is) in
     record {
       valid = valid;
@@ -162,8 +162,8 @@ may_spawn id s told nodes next rows shown o x a valid values before scene sound 
       before = before;
       scene = scene;
       sets = all_two (λ (p : Prop). is_sound p.value) has_short (λ (p : Prop). is_right_value p.value) (λ p h k. right_value p.value h k) o.sets sound w.short;
-      site = subst (λ q. IsSite q (spawner_at q o.spawner) o x) same site;
-      within = subst (λ (q : Scene). IfSome x.place (λ i. i < length q.scenes)) same within;
+      site = site;
+      within = within;
       welcome = w;
     }
 

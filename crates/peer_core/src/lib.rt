@@ -3,10 +3,12 @@
 //! Built so far are links, spawns by scene, assignments to properties, and received spawns, over any valid scene.
 #![tactic(auto)]
 
+mod effects;
 mod links;
 mod lookup;
 mod making;
 mod peer;
+mod placing;
 mod receiving;
 mod reporting;
 mod rows;

@@ -1,35 +1,59 @@
 //! What stands in a valid scene, and where.
 ghost use Rattle.std.specs.Prelude.{◌≡◌, ◌<◌, ◌≤◌, ◌+◌, Some, IfSome, length, position, map};
 ghost use Rattle.std.specs.List.{list_any};
+ghost use Rattle.std.specs.Option.{option_copied};
 ghost use Rattle.gd_variant.specs.Words.{text_eq, place_of, or_else};
-ghost use Rattle.scene_model.specs.declared.scene.Node.{Node as NodeOf};
 ghost use Rattle.scene_model.specs.declared.scene.SceneDef.{SceneDef as SceneDefOf};
 ghost use Rattle.scene_model.specs.declared.scene.SyncDef.{SyncDef as SyncDefOf};
-ghost use Rattle.scene_model.specs.Lookup.{fixed_path_id, scene_place as scene_place_of};
+ghost use Rattle.scene_model.specs.Lookup.{fixed_node as fixed_node_of, fixed_path_id, scene_place as scene_place_of, spawner_at as spawner_at_of, spawner_of as spawner_in};
 ghost use Rattle.scene_model.specs.Valid.{IsValidScene};
 ghost use Rattle.peer_model.specs.Rows.{syncs_at};
 ghost use Rattle.peer_laws.specs.Shown.{is_open as is_open_of};
 
 use crate::texts::same_text;
 use gd_variant::Text;
-use scene_model::{Node, Scene, SceneDef, SyncDef};
+use headless_tree::Tree;
+use scene_model::{Node, Role, Scene, SceneDef, SpawnerDef, SyncDef};
 use sqlite_items::at as item_at;
 
-fn node_with(nodes: &[Node], path: &Text) -> Option<usize>
-    ensures place { result ≡ position (λ (n : NodeOf). text_eq path.now n.path) nodes.now }
-    ensures within { IfSome result (λ i. i < length nodes.now) }
-{
-    nodes.iter().position(|node| same_text(path, &node.path))
-}
-
 /// The path id of a fixed node, its place from 1, or 0 where there is none at the path.
-pub fn path_id(scene: &Scene, path: &Text) -> u32
-    requires { IsValidScene scene.now }
-    ensures { result ≡ or_else (fixed_path_id scene.now path.now) 0 }
+pub fn path_id(tree: &Tree, path: &Text) -> u32
+    requires { IsValidScene tree.now.scene }
+    ensures { result ≡ or_else (fixed_path_id tree.now.scene path.now) 0 }
 {
-    match node_with(scene.nodes.as_slice(), path) {
+    match tree.fixed_place(path.as_str()) {
         Some(place) => place as u32 + 1,
         None => 0,
+    }
+}
+
+fn fixed_node<'a>(tree: &'a Tree, path: &Text) -> Option<&'a Node>
+    ensures { option_copied result ≡ fixed_node_of tree.now.scene path.now }
+{
+    match tree.fixed_place(path.as_str()) {
+        Some(place) => item_at(tree.scene().nodes.as_slice(), place),
+        None => None,
+    }
+}
+
+/// A node's spawner, where it is one.
+pub fn spawner_of(node: &Node) -> Option<&SpawnerDef>
+    ensures { option_copied result ≡ spawner_in node.now }
+{
+    match &node.role {
+        Role::Spawner(def) => Some(def),
+        Role::Sync(_) => None,
+        Role::Plain => None,
+    }
+}
+
+/// The spawner at a path.
+pub fn spawner_at<'a>(tree: &'a Tree, path: &Text) -> Option<&'a SpawnerDef>
+    ensures { option_copied result ≡ spawner_at_of tree.now.scene path.now }
+{
+    match fixed_node(tree, path) {
+        Some(node) => spawner_of(node),
+        None => None,
     }
 }
 

@@ -1,17 +1,15 @@
-//! Spawned nodes are put into the tree.
+//! Spawns of this peer: their rows, their nodes and their packets.
 ghost use Rattle.std.specs.Prelude.{◌≡◌, ◌<◌, ◌≤◌, ◌+◌, ◌++◌, [], ◌∷◌, true, IfOk, OnOk, length};
 ghost use Rattle.std.specs.List.{list_all};
-ghost use Rattle.gd_variant.specs.Words.{put_by, or_else};
-ghost use Rattle.scene_model.specs.Paths.{joined};
+ghost use Rattle.gd_variant.specs.Words.{or_else};
 ghost use Rattle.peer_model.specs.Rows.{syncs_at, count_from};
-ghost use Rattle.headless_tree.specs.Nodes.{row_before, spawned_node};
-ghost use Rattle.headless_tree.specs.Numbers.{are_new};
 ghost use Rattle.peer_core.specs.Steps.{packet_form};
 ghost use Rattle.peer_core.specs.Links.{peers_of};
 ghost use Rattle.peer_core.specs.Calls.{shown_to_each};
 ghost use Rattle.peer_core.specs.Sites.{MaySpawn, who_at, own_made, with_made, after_made, site_row, has_short, with_settings};
 
 use crate::links::Link;
+use crate::placing::put_node;
 use crate::rows::SpawnedRow;
 use crate::sending::show_to_each;
 use crate::setting::put_value;
@@ -21,27 +19,6 @@ use headless_tree::Tree;
 use scene_model::{OutList, Prop, Scene, SpawnOp, SyncDef};
 use sqlite_items::Items;
 use std::alloc::Global;
-
-/// Adds a node below another with the defaults of the scene at a place.
-pub fn put_node(
-    alloc: Global,
-    tree: &mut Tree,
-    under: &Text,
-    name: &Text,
-    auth: &i32,
-    num: u32,
-    ids: &IdList,
-    place: u32,
-) -> Result<(), OutOfMemory>
-    requires scene { place < length tree.old.scene.scenes }
-    requires numbers { are_new auth.now num ids.now tree.old.nodes ≡ true }
-    ensures { OnOk result (tree.new ≡ record tree.old { nodes = put_by row_before (spawned_node tree.old.scene (joined under.now name.now) auth.now num ids.now place) tree.old.nodes }) }
-{
-    match tree.insert(alloc, under.as_str(), name.as_str(), *auth, num, ids, place) {
-        Ok(()) => Ok(()),
-        Err(_) => Err(OutOfMemory),
-    }
-}
 
 /// Makes settings of the node at a path in order.
 fn put_sets(alloc: Global, tree: &mut Tree, path: &Text, sets: &[Prop]) -> Result<(), OutOfMemory>

@@ -177,6 +177,13 @@ impl Peer {
         self.id
     }
 
+    /// A scene equal to the one that the peer was made of.
+    pub fn scene(&self) -> &Scene
+        ensures { result.now ≡ self.now.who.scene }
+    {
+        self.tree.scene()
+    }
+
     /// Whether an earlier step ran out of memory.
     pub fn is_spent(&self) -> bool
         ensures { result ≡ self.now.spent }

@@ -6,32 +6,32 @@ ghost use Rattle.std.specs.Ordering.{int_eq};
 ghost use Rattle.gd_variant.specs.Words.{has_int, put_by};
 ghost use Rattle.gd_variant.specs.Sound.{is_sound};
 ghost use Rattle.scene_model.specs.declared.spawn.SpawnMsg.{SpawnMsg as SpawnMsgOf};
-ghost use Rattle.scene_model.specs.Paths.{joined as joined_of};
 ghost use Rattle.scene_model.specs.Valid.{IsValidScene};
 ghost use Rattle.packet_codec.specs.Packets.{read_packet};
 ghost use Rattle.peer_model.specs.Updates.{shown_node, shown_place, shown_path};
 ghost use Rattle.peer_model.specs.View.{fits as fits_of};
 ghost use Rattle.peer_model.specs.Rows.{syncs_at};
 ghost use Rattle.peer_model.specs.Refusals.{argument_fits};
-ghost use Rattle.headless_tree.specs.Nodes.{row_before, spawned_node};
-ghost use Rattle.headless_tree.specs.Numbers.{are_new};
+ghost use Rattle.headless_tree.specs.Nodes.{row_before};
 ghost use Rattle.peer_core.specs.declared.links.Link.{Link as LinkOf};
 ghost use Rattle.peer_core.specs.declared.rows.SpawnedRow.{SpawnedRow as RowOf};
 ghost use Rattle.peer_core.specs.Links.{peers_of};
 ghost use Rattle.peer_core.specs.Rights.{is_counted, AreRight};
 ghost use Rattle.peer_core.specs.Judged.{link_judged as link_judged_of, shown_judged};
-ghost use Rattle.peer_core.specs.Steps.{spawn_read, done_with, read_taken, linked_taken, shown_taken};
+ghost use Rattle.peer_core.specs.Steps.{spawn_read, read_taken, linked_taken, shown_taken};
 ghost use Rattle.peer_core.specs.Arrivals.{IsMaking, link_judged_at, judged_beside, place_judged, is_sound_spawn, is_sound_message, rows_counted, with_row, has_room, assigned_all, argument_assigned};
 ghost use Rattle.peer_core.specs.Parts.{parts_kept};
 
+use crate::effects::done;
 use crate::links::{Link, SERVER, is_up};
 use crate::lookup::syncs_of;
+use crate::placing::put_node;
 use crate::setting::put_value;
 use crate::shown::{Making, judge_ids, judge_place, meaning, plan};
 use gd_variant::{Message, OutOfMemory, Plain, Text, ValueList, Variant};
 use headless_tree::Tree;
 use packet_codec::{CodecStop, decode_packet};
-use scene_model::{Effects, Fault, Outcome, SpawnMsg};
+use scene_model::{Fault, Outcome, SpawnMsg};
 use sqlite_items::Items;
 use std::alloc::Global;
 
@@ -120,34 +120,6 @@ fn judge_making(tree: &Tree, count: u32, making: &Making, spawn: &SpawnMsg) -> O
     judge_place(tree, count, &making.path, defs, &making.props, spawn)
 }
 
-/// Adds the node of a spawn, with its scene's defaults.
-fn put_node(
-    alloc: Global,
-    tree: &mut Tree,
-    from: &i32,
-    spawn: &SpawnMsg,
-    making: &Making,
-) -> Result<(), OutOfMemory>
-    requires within { making.now.place < length tree.old.scene.scenes }
-    requires new { are_new from.now spawn.now.net spawn.now.syncs tree.old.nodes ≡ true }
-    ensures ok { OnOk result (tree.new ≡ record tree.old { nodes = put_by row_before (spawned_node tree.old.scene (joined_of making.now.under spawn.now.name) from.now spawn.now.net spawn.now.syncs making.now.place) tree.old.nodes }) }
-    ensures err { OnErr result (tree.new ≡ tree.old) }
-{
-    let from = *from;
-    match tree.insert(
-        alloc,
-        making.under.as_str(),
-        spawn.name.as_str(),
-        from,
-        spawn.net,
-        &spawn.syncs,
-        making.place,
-    ) {
-        Ok(()) => Ok(()),
-        Err(_) => Err(OutOfMemory),
-    }
-}
-
 /// Assigns an argument to the property that takes it.
 fn put_argument(tree: &mut Tree, path: &Text, prop: &Option<Text>, arg: Option<Variant>)
     requires { argument_fits arg ≡ true }
@@ -217,7 +189,16 @@ fn put_spawn(
     ensures ok { OnOk result (tree.new ≡ record tree.old { nodes = put_by row_before (shown_node tree.old.scene from.now spawn) tree.old.nodes }) }
     ensures err { OnErr result (tree.new ≡ tree.old) }
 {
-    put_node(alloc, tree, from, &spawn, making)?;
+    put_node(
+        alloc,
+        tree,
+        &making.under,
+        &spawn.name,
+        from,
+        spawn.net,
+        &spawn.syncs,
+        making.place,
+    )?;
     let SpawnMsg {
         scene: _,
         spawner: _,
@@ -230,18 +211,6 @@ fn put_spawn(
     put_argument(tree, &making.path, &making.argument, arg);
     put_values(tree, &making.path, making.props.as_slice(), values);
     Ok(())
-}
-
-/// What an accepted packet does: nothing beside the change of the tree.
-fn done(alloc: Global) -> Outcome
-    ensures { result ≡ done_with [] }
-{
-    Outcome::Done(Effects {
-        packets: Items::new(alloc),
-        runs: Items::new(alloc),
-        raws: Items::new(alloc),
-        skips: Items::new(alloc),
-    })
 }
 
 /// A spawn from a link that is up.
@@ -262,7 +231,7 @@ fn take_spawn(
         Ok(making) => {
             put_spawn(alloc, tree, from, spawn, &making)?;
             count_row(links, from);
-            Ok(done(alloc))
+            Ok(done(alloc, Items::new(alloc)))
         }
         Err(fault) => Ok(Outcome::Fault(fault)),
     }

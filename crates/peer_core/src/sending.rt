@@ -74,7 +74,7 @@ fn message_of(alloc: Global, tree: &Tree, row: &SpawnedRow) -> Result<Message, O
     requires { IsValidScene tree.now.scene }
     ensures { IfOk result (λ m. m ≡ plain_packet (row_packet tree.now.scene tree.now.nodes row.now)) }
 {
-    let spawner = path_id(tree.scene(), &row.spawner);
+    let spawner = path_id(tree, &row.spawner);
     let syncs = Items::from_slice(alloc, row.ids.as_slice())?;
     let name = row.name.try_clone(alloc)?;
     let values = spawn_values(alloc, tree, &row.path, row.place)?;

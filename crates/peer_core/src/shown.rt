@@ -5,8 +5,7 @@ ghost use Rattle.std.specs.Option.{option_copied};
 ghost use Rattle.gd_variant.specs.Words.{has_nat, or_else};
 ghost use Rattle.gd_variant.specs.declared.value.Variant.{Variant as VariantOf};
 ghost use Rattle.scene_model.specs.declared.scene.CustomDef.{CustomDef as CustomDefOf};
-ghost use Rattle.scene_model.specs.Lookup.{fixed_node_at, spawner_of as spawner_of_node};
-ghost use Rattle.scene_model.specs.Paths.{joined as joined_of};
+ghost use Rattle.scene_model.specs.Lookup.{fixed_node_at};
 ghost use Rattle.scene_model.specs.Valid.{IsValidScene};
 ghost use Rattle.scene_model.specs.Syncs.{spawn_props};
 ghost use Rattle.peer_model.specs.Updates.{live_at, spawner_with, scene_name_of, all_spawn_props};
@@ -16,21 +15,16 @@ ghost use Rattle.headless_tree.specs.Numbers.{has_number};
 ghost use Rattle.peer_laws.specs.Facts.{rows_under};
 ghost use Rattle.peer_core.specs.Arrivals.{meaning_judged, ids_judged, place_judged, IsMaking};
 
-use crate::lookup::{scene_place, syncs_of};
-use crate::texts::is_name;
+use crate::lookup::{scene_place, spawner_of, syncs_of};
+use crate::spawning::{CUSTOM_BYTE, MOST_ROWS};
+use crate::texts::{is_name, joined};
 use crate::values::fits;
 use gd_variant::{OutOfMemory, Text, TextRun, Variant};
 use headless_tree::Tree;
 use indexmap::IndexSet;
-use scene_model::{Fault, Node, Role, Scene, SpawnMsg, SpawnerDef, SyncDef};
+use scene_model::{Fault, Node, Scene, SpawnMsg, SpawnerDef, SyncDef};
 use sqlite_items::{Items, at as item_at};
 use std::alloc::Global;
-
-/// The scene byte of a custom spawn.
-const CUSTOM_BYTE: u8 = 255;
-
-/// The most rows of one authority.
-const MOST_ROWS: u32 = 4096;
 
 /// The numbers of rows are below this one, and those of fixed synchronizers aren't.
 const FIXED_BIT: u32 = 2147483648;
@@ -56,16 +50,6 @@ fn fixed_node(scene: &Scene, id: u32) -> Option<&Node>
     item_at(scene.nodes.as_slice(), id as usize - 1)
 }
 
-fn spawner_in(node: &Node) -> Option<&SpawnerDef>
-    ensures { option_copied result ≡ spawner_of_node node.now }
-{
-    match &node.role {
-        Role::Spawner(def) => Some(def),
-        Role::Sync(_) => None,
-        Role::Plain => None,
-    }
-}
-
 /// The name of the scene that a scene byte means.
 fn name_with(def: &SpawnerDef, byte: u8) -> Option<&Text>
     ensures { option_copied result ≡ scene_name_of def.now byte }
@@ -88,7 +72,7 @@ pub fn meaning<'a>(
     ensures { MatchResult result (λ x. (meaning_judged scene.now from.now spawn.now ≡ None) × (spawner_with scene.now spawn.now.spawner ≡ Some x.0.now) × (scene_name_of x.0.now spawn.now.scene ≡ Some x.1.now)) (λ f. meaning_judged scene.now from.now spawn.now ≡ Some f) }
 {
     match fixed_node(scene, spawn.spawner) {
-        Some(node) => match spawner_in(node) {
+        Some(node) => match spawner_of(node) {
             Some(def) => {
                 if node.auth != *from {
                     return Err(Fault::NotAuthority);
@@ -244,7 +228,7 @@ pub fn judge_place(
     if has_path(tree, path) {
         return Some(Fault::NameTaken);
     }
-    if MOST_ROWS <= count {
+    if MOST_ROWS <= count as usize {
         return Some(Fault::NodesFull);
     }
     if is_wrong(defs, props, spawn) {
@@ -276,15 +260,6 @@ fn spawn_names(alloc: Global, defs: &[SyncDef]) -> Result<TextRun, OutOfMemory>
     Ok(names)
 }
 
-fn path_below(alloc: Global, under: &Text, name: &Text) -> Result<Text, OutOfMemory>
-    ensures { IfOk result (λ t. t ≡ joined_of under.now name.now) }
-{
-    let mut path = String::from_str(alloc, under.as_str())?;
-    path.push('/')?;
-    path.push_str(name.as_str())?;
-    Text::from_str(alloc, path.as_str())
-}
-
 /// The property that takes an argument.
 fn argument_of(alloc: Global, def: &SpawnerDef) -> Result<Option<Text>, OutOfMemory>
     ensures { IfOk result (λ name. name ≡ option_map (λ (c : CustomDefOf). c.prop) def.now.custom) }
@@ -314,7 +289,7 @@ pub fn plan(
     match scene_place(scene, name) {
         Some(place) => Ok(Making {
             under: def.under.try_clone(alloc)?,
-            path: path_below(alloc, &def.under, &spawn.name)?,
+            path: joined(alloc, &def.under, &spawn.name)?,
             place,
             props: spawn_names(alloc, syncs_of(scene, place))?,
             argument: argument_of(alloc, def)?,

@@ -3,11 +3,9 @@ ghost use Rattle.std.specs.Prelude.{◌≡◌, ◌<◌, ◌≤◌, ◌+◌, ℕ,
 ghost use Rattle.std.specs.List.{list_any};
 ghost use Rattle.std.specs.Option.{option_copied};
 ghost use Rattle.gd_variant.specs.Words.{text_eq, has_text, some_is, or_else, place_of, first_of};
-ghost use Rattle.scene_model.specs.declared.scene.Node.{Node as NodeOf};
 ghost use Rattle.scene_model.specs.declared.scene.SpawnerDef.{SpawnerDef as SpawnerDefOf};
 ghost use Rattle.scene_model.specs.declared.scene.Prop.{Prop as PropOf};
-ghost use Rattle.scene_model.specs.Lookup.{has_prop as has_prop_of, spawner_at, spawner_of as spawner_in, fixed_node as fixed_node_of, scene_place as scene_place_of};
-ghost use Rattle.scene_model.specs.Paths.{joined as joined_of};
+ghost use Rattle.scene_model.specs.Lookup.{has_prop as has_prop_of, spawner_at as spawner_at_of, scene_place as scene_place_of};
 ghost use Rattle.scene_model.specs.Valid.{IsValidScene};
 ghost use Rattle.peer_model.specs.Rows.{syncs_at};
 ghost use Rattle.peer_model.specs.Refusals.{may_make as may_make_of, argument_fits as argument_fits_of, setting_refusals};
@@ -16,24 +14,24 @@ ghost use Rattle.peer_core.specs.declared.spawning.Site.{Site as SiteOf};
 ghost use Rattle.peer_core.specs.Judged.{is_at_limit as is_at_limit_of, rows_of_spawner, spawn_judged};
 ghost use Rattle.peer_core.specs.Sites.{IsSite, byte_in, under_in, spawner_judged, name_judged, room_judged, sets_judged, argument_judged, values_judged, rest_judged, named_judged, props_at};
 
-use crate::lookup::{scene_place, syncs_of};
+use crate::lookup::{scene_place, spawner_at, syncs_of};
 use crate::rows::SpawnedRow;
-use crate::texts::{is_name, same_text};
+use crate::texts::{is_name, joined, same_text};
 use crate::values::{fits, owns};
 use gd_variant::{OutOfMemory, Text, Variant};
 use headless_tree::Tree;
-use scene_model::{Node, Prop, Refusal, Role, Scene, SpawnOp, SpawnerDef, SyncDef};
+use scene_model::{Prop, Refusal, Scene, SpawnOp, SpawnerDef, SyncDef};
 use sqlite_items::at as item_at;
 use std::alloc::Global;
 
 /// The most rows of one authority.
-const MOST_ROWS: usize = 4096;
+pub const MOST_ROWS: usize = 4096;
 
 /// The greatest number of a row or synchronizer.
 const MOST_NET_ID: u64 = 2147483647;
 
 /// The scene byte of a custom spawn.
-const CUSTOM_BYTE: u8 = 255;
+pub const CUSTOM_BYTE: u8 = 255;
 
 /// Where a spawn puts its node: the parent's path, its own path, the place of its scene, and the
 /// first place of that scene in the spawner's list.
@@ -43,47 +41,6 @@ pub struct Site {
     pub path: Text,
     pub place: Option<u32>,
     pub byte: u8,
-}
-
-fn fixed_node<'a>(scene: &'a Scene, path: &Text) -> Option<&'a Node>
-    ensures { option_copied result ≡ fixed_node_of scene.now path.now }
-{
-    scene
-        .nodes
-        .as_slice()
-        .iter()
-        .find(|node| same_text(&node.path, path))
-}
-
-/// A node's spawner, where it is one.
-pub fn spawner_of(node: &Node) -> Option<&SpawnerDef>
-    ensures { option_copied result ≡ spawner_in node.now }
-{
-    match &node.role {
-        Role::Spawner(def) => Some(def),
-        Role::Sync(_) => None,
-        Role::Plain => None,
-    }
-}
-
-/// The spawner at a path.
-fn spawner_with<'a>(scene: &'a Scene, path: &Text) -> Option<&'a SpawnerDef>
-    ensures { option_copied result ≡ spawner_at scene.now path.now }
-{
-    match fixed_node(scene, path) {
-        Some(node) => spawner_of(node),
-        None => None,
-    }
-}
-
-/// The path of a node below another.
-pub fn joined(alloc: Global, under: &Text, name: &Text) -> Result<Text, OutOfMemory>
-    ensures { IfOk result (λ t. t ≡ joined_of under.now name.now) }
-{
-    let mut path = String::from_str(alloc, under.as_str())?;
-    path.push('/')?;
-    path.push_str(name.as_str())?;
-    Text::from_str(alloc, path.as_str())
 }
 
 fn text_place(texts: &[Text], text: &Text) -> Option<usize>
@@ -324,10 +281,10 @@ pub fn judge_spawn(
 ) -> Option<Refusal>
     requires valid { IsValidScene tree.now.scene }
     requires scene { is_some op.now.scene ≡ true }
-    requires site { IsSite tree.now.scene (spawner_at tree.now.scene op.now.spawner) op.now site.now }
+    requires site { IsSite tree.now.scene (spawner_at_of tree.now.scene op.now.spawner) op.now site.now }
     ensures { result ≡ spawn_judged (record { id = id.now; scene = tree.now.scene }) tree.now.nodes rows.now next op.now }
 {
-    let def = spawner_with(tree.scene(), &op.spawner);
+    let def = spawner_at(tree, &op.spawner);
     match judge_owned(id, tree, def, op) {
         Some(refusal) => Some(refusal),
         None => judge_named(tree, rows, next, def, op, site),
@@ -389,11 +346,11 @@ fn site_with(
 }
 
 /// Where a spawn by scene would put its node.
-pub fn site_of(alloc: Global, scene: &Scene, op: &SpawnOp) -> Result<Site, OutOfMemory>
-    requires { IsValidScene scene.now }
-    ensures site { IfOk result (IsSite scene.now (spawner_at scene.now op.now.spawner) op.now) }
-    ensures within { IfOk result (λ (x : SiteOf). IfSome x.place (λ i. i < length scene.now.scenes)) }
+pub fn site_of(alloc: Global, tree: &Tree, op: &SpawnOp) -> Result<Site, OutOfMemory>
+    requires { IsValidScene tree.now.scene }
+    ensures site { IfOk result (IsSite tree.now.scene (spawner_at_of tree.now.scene op.now.spawner) op.now) }
+    ensures within { IfOk result (λ (x : SiteOf). IfSome x.place (λ i. i < length tree.now.scene.scenes)) }
 {
-    let def = spawner_with(scene, &op.spawner);
-    site_with(alloc, scene, def, op)
+    let def = spawner_at(tree, &op.spawner);
+    site_with(alloc, tree.scene(), def, op)
 }

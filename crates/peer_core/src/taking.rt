@@ -12,8 +12,9 @@ ghost use Rattle.peer_core.specs.declared.rows.SpawnedRow.{SpawnedRow as RowOf};
 ghost use Rattle.peer_core.specs.declared.links.Link.{Link as LinkOf};
 ghost use Rattle.peer_core.specs.Rights.{AreRight, has_right_values, is_right_row, is_before, is_sound_op};
 ghost use Rattle.peer_core.specs.Parts.{kept_of};
-ghost use Rattle.peer_core.specs.Steps.{packet_form, done_with, taken, op_taken};
+ghost use Rattle.peer_core.specs.Steps.{packet_form, taken, op_taken};
 
+use crate::effects::done;
 use crate::links::{Link, drop_link, judge_down, judge_up, note_come, put_link};
 use crate::making::make_spawn;
 use crate::rows::SpawnedRow;
@@ -23,21 +24,9 @@ use crate::spawning::{judge_spawn, site_of};
 use gd_variant::{OutOfMemory, Text, Variant};
 use headless_tree::Tree;
 use indexmap::IndexSet;
-use scene_model::{Effects, Op, OutList, Outcome, Refusal, SpawnOp};
+use scene_model::{Op, Outcome, Refusal, SpawnOp};
 use sqlite_items::Items;
 use std::alloc::Global;
-
-/// What an accepted event does: packets, and nothing else.
-pub fn done(alloc: Global, packets: OutList) -> Outcome
-    ensures { result ≡ done_with packets }
-{
-    Outcome::Done(Effects {
-        packets,
-        runs: Items::new(alloc),
-        raws: Items::new(alloc),
-        skips: Items::new(alloc),
-    })
-}
 
 /// A link came up.
 pub fn take_up(
@@ -125,7 +114,7 @@ pub fn take_spawn(
     ensures taken { (come : List ℤ) → IfOk result (λ o. record { outcome = o; kept = kept_of id.now come links.now tree.new next.new rows.new.items } ≡ op_taken packet_form (kept_of id.now come links.now tree.old next.old rows.old.items) (spawns op.now)) }
     ensures right { (come : List ℤ) → AreRight id.now come links.now tree.old next.old rows.old.items → OnOk result (AreRight id.now come links.now tree.new next.new rows.new.items) }
 {
-    let site = site_of(alloc, tree.scene(), op)?;
+    let site = site_of(alloc, tree, op)?;
     match judge_spawn(id, tree, rows, *next, op, &site) {
         Some(refusal) => Ok(Outcome::Refused(refusal)),
         None => {

@@ -1,10 +1,11 @@
-//! Tests on texts.
-ghost use Rattle.std.specs.Prelude.{◌≡◌, ◌↔◌, IsTrue, true, not, ◌&&◌};
+//! Texts: paths and names.
+ghost use Rattle.std.specs.Prelude.{◌≡◌, ◌↔◌, IsTrue, IfOk, true, not, ◌&&◌};
 ghost use Rattle.std.specs.List.{list_all};
 ghost use Rattle.gd_variant.specs.Words.{text_eq, has_nat};
-ghost use Rattle.scene_model.specs.Paths.{is_name as is_name_of, forbidden};
+ghost use Rattle.scene_model.specs.Paths.{is_name as is_name_of, forbidden, joined as joined_of};
 
-use gd_variant::Text;
+use gd_variant::{OutOfMemory, Text};
+use std::alloc::Global;
 
 /// The most bytes of a name.
 const LONGEST_NAME: usize = 64;
@@ -46,4 +47,14 @@ pub fn is_name(name: &Text) -> bool
 {
     let bytes = bytes_of(name);
     1 <= bytes.len() && bytes.len() <= LONGEST_NAME && has_allowed(bytes)
+}
+
+/// The path of a node below another.
+pub fn joined(alloc: Global, under: &Text, name: &Text) -> Result<Text, OutOfMemory>
+    ensures { IfOk result (λ t. t ≡ joined_of under.now name.now) }
+{
+    let mut path = String::from_str(alloc, under.as_str())?;
+    path.push('/')?;
+    path.push_str(name.as_str())?;
+    Text::from_str(alloc, path.as_str())
 }

@@ -11,10 +11,11 @@ use Rattle.gd_variant.specs.Words.{has_int, put_by}
 use Rattle.peer_model.specs.Updates.{Live}
 use Rattle.headless_tree.specs.Nodes.{row_before, is_row_of, is_spawned}
 use Rattle.peer_laws.proofs.Numbers.{int_same, int_is, int_comm, less_not, lt_apart}
-use Rattle.peer_laws.proofs.Each.{all_weaker, none_weaker, all_fail, all-flat_map, all_has}
+use Rattle.peer_laws.proofs.Each.{none_weaker, all_fail, all-flat_map, all_has}
 use Rattle.peer_laws.proofs.Filters.{filter_all, filter_none}
 use Rattle.peer_laws.proofs.Joined.{flat_agree}
 use Rattle.peer_laws.proofs.Sorted.{put_past, put_within, is_rising}
+use Rattle.headless_tree.proofs.Order.{all_weaker}
 
 -- what a row of an authority is
 pub row_parts : (c : ℤ) (y : Live) → is_row_of c y ≡ true → (is_spawned y ≡ true) × (y.auth ≡ c)

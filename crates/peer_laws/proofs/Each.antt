@@ -7,7 +7,7 @@ use Rattle.std.proofs.lemmas.Bool.{and_parts, and_from, or_parts, or_from, eq-eq
 use Rattle.std.proofs.lemmas.List.Folds.{list_all-append}
 use Rattle.std.proofs.lemmas.List.Elements.{All-weaker, All-contains_itself}
 use Rattle.gd_variant.specs.Words.{text_eq, has_text, has_nat, has_int, put_by, sort_by}
-use Rattle.peer_model.proofs.Texts.{text_eq-true}
+use Rattle.scene_model.proofs.TextLaws.{text_eq-true}
 use Rattle.headless_tree.proofs.Numbered.{unnot}
 use Rattle.peer_laws.proofs.Tests.{not_false, or_true}
 use Rattle.peer_laws.proofs.Numbers.{int_is}
@@ -17,10 +17,6 @@ use Rattle.peer_laws.proofs.Numbers.{int_is}
 pub all_each : {X : Type 0} (p : X → Bool) → ((x : X) → p x ≡ true) → (xs : List X) → list_all p xs ≡ true
 all_each p h [] = refl
 all_each p h (x ∷ xs) = and_from (p x) (list_all p xs) (h x) (all_each p h xs)
-
-pub all_weaker : {X : Type 0} (p q : X → Bool) → ((x : X) → p x ≡ true → q x ≡ true) → (xs : List X) → list_all p xs ≡ true → list_all q xs ≡ true
-all_weaker p q h [] k = refl
-all_weaker p q h (x ∷ xs) k = and_from (q x) (list_all q xs) (h x (and_parts (p x) (list_all p xs) k).0) (all_weaker p q h xs (and_parts (p x) (list_all p xs) k).1)
 
 pub all_both : {X : Type 0} (p q : X → Bool) (xs : List X) → list_all p xs ≡ true → list_all q xs ≡ true → list_all (λ x. p x && q x) xs ≡ true
 all_both p q [] h k = refl

@@ -22,7 +22,7 @@ use Rattle.peer_model.specs.Updates.{Update, Hide, Show, Tell, Live, Replica, ap
 use Rattle.peer_model.specs.Changes.{changes, scene_byte, show_of}
 use Rattle.peer_model.specs.View.{fits}
 use Rattle.peer_model.proofs.Links.{up_after_comes}
-use Rattle.peer_model.proofs.Lists.{length-put_by}
+use Rattle.scene_model.proofs.ListLaws.{length-put_by}
 use Rattle.peer_laws.specs.Built.{AllAccepted}
 use Rattle.peer_laws.specs.Shown.{is_open}
 use Rattle.peer_laws.proofs.Numbers.{int_is}

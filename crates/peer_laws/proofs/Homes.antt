@@ -23,19 +23,20 @@ use Rattle.peer_model.specs.Faults.{auth_is}
 use Rattle.peer_model.specs.Updates.{Live, Replica, Update, applied, by_number, shown_node, spawner_with, shown_path}
 use Rattle.peer_model.specs.View.{view, own_live, rows_of, rows_while, node_at, fixed_now, updates_from, authorities, tree_of}
 use Rattle.peer_model.proofs.Nodes.{fixed_is_there}
-use Rattle.peer_model.proofs.Texts.{text_eq-true, text_eq-same}
+use Rattle.scene_model.proofs.TextLaws.{text_eq-true, text_eq-same}
 use Rattle.headless_tree.specs.Nodes.{is_row_of, is_spawned}
 use Rattle.peer_model.specs.Peers.{is_up}
 use Rattle.peer_laws.specs.Built.{Accepts, AllAccepted}
 use Rattle.peer_laws.proofs.Tests.{not_false, never, then_some, some_of, or_true, some_from}
 use Rattle.peer_laws.proofs.Numbers.{int_same, int_is}
-use Rattle.peer_laws.proofs.Each.{all_weaker, all-put_by, all_both, all_each, all-flat_map, all_joined}
+use Rattle.peer_laws.proofs.Each.{all-put_by, all_both, all_each, all-flat_map, all_joined}
 use Rattle.peer_laws.proofs.Authorities.{row_parts}
 use Rattle.peer_laws.proofs.Scenes.{unders_apart}
 use Rattle.peer_laws.proofs.Places.{found_at}
 use Rattle.peer_laws.proofs.TreeSpawns.{spawn_is_allowed}
 use Rattle.peer_laws.proofs.Views.{IsWelcome, shown_by, updates_received, updates_of_others, applied_show, spawn_is_welcome, view_is, rows_are_of}
 use Rattle.peer_laws.proofs.Origins.{IsMade, every_made}
+use Rattle.headless_tree.proofs.Order.{all_weaker}
 
 -- names have no slash
 

@@ -6,14 +6,13 @@ use Rattle.std.proofs.lemmas.Bool.{and_from, or_parts, or_from}
 use Rattle.std.proofs.lemmas.List.Folds.{list_any-append}
 use Rattle.gd_variant.specs.Words.{text_eq, has_text, some_is, put_by}
 use Rattle.scene_model.specs.Valid.{has_twice}
-use Rattle.peer_model.proofs.Lists.{any-put_by, found_is_any, any-map, any_ext}
-use Rattle.peer_model.proofs.Texts.{text_eq-true}
-use Rattle.peer_model.proofs.Nodes.{text_eq-comm}
+use Rattle.scene_model.proofs.ListLaws.{any-put_by, found_is_any, any-map, any_ext}
+use Rattle.scene_model.proofs.TextLaws.{text_eq-true, text_eq-sym}
 use Rattle.headless_tree.specs.Lists.{change_first}
 
 -- a search by a text finds something where the text stands
 pub found_is_has : {X : Type 0} (key : X → List ℕ) (t : List ℕ) (xs : List X) → is_some (find (λ x. text_eq (key x) t) xs) ≡ has_text t (map key xs)
-found_is_has key t xs = found_is_any (λ x. text_eq (key x) t) xs ∙ any_ext (λ x. text_eq (key x) t) (λ x. text_eq t (key x)) (λ x. text_eq-comm (key x) t) xs ∙ sym (any-map (text_eq t) key xs)
+found_is_has key t xs = found_is_any (λ x. text_eq (key x) t) xs ∙ any_ext (λ x. text_eq (key x) t) (λ x. text_eq t (key x)) (λ x. text_eq-sym (key x) t) xs ∙ sym (any-map (text_eq t) key xs)
 
 -- texts that stand once, of which some are taken away or one is added
 
@@ -51,7 +50,7 @@ put_once key before x (y ∷ ys) n h =
     let new = or_parts (text_eq (key x) (key y)) (has_text (key x) (map key ys)) n in
     let parts = or_parts (has_text (key y) (map key ys)) (has_twice (map key ys)) h in
     elim (before y x) as (λ b. has_twice (map key (cond b (y ∷ put_by before x ys) (x ∷ y ∷ ys))) ≡ false) [
-      | true ↦ or_from (has_text (key y) (map key (put_by before x ys))) (has_twice (map key (put_by before x ys))) (put_lacks key before (key y) x ys (text_eq-comm (key y) (key x) ∙ new.0) parts.0) (put_once key before x ys new.1 parts.1)
+      | true ↦ or_from (has_text (key y) (map key (put_by before x ys))) (has_twice (map key (put_by before x ys))) (put_lacks key before (key y) x ys (text_eq-sym (key y) (key x) ∙ new.0) parts.0) (put_once key before x ys new.1 parts.1)
       | false ↦ or_from (text_eq (key x) (key y) || has_text (key x) (map key ys)) (has_text (key y) (map key ys) || has_twice (map key ys)) n h
     ]
 
@@ -95,7 +94,7 @@ unchanged : {X : Type 0} (key : X → List ℕ) (t : List ℕ) (f : X → X) (xs
 unchanged key t f [] h = refl
 unchanged key t f (x ∷ xs) h =
     let parts = or_parts (text_eq t (key x)) (has_text t (map key xs)) h in
-    ap₂ (λ b ys. cond b (f x) x ∷ ys) (text_eq-comm (key x) t ∙ parts.0) (unchanged key t f xs parts.1)
+    ap₂ (λ b ys. cond b (f x) x ∷ ys) (text_eq-sym (key x) t ∙ parts.0) (unchanged key t f xs parts.1)
 
 -- where no text stands twice, the first change is the only one
 pub change_once : {X : Type 0} (key : X → List ℕ) (t : List ℕ) (f : X → X) (xs : List X) → has_twice (map key xs) ≡ false → change_first (λ x. text_eq (key x) t) f xs ≡ map (change_if key t f) xs
@@ -114,7 +113,7 @@ none_there : {X : Type 0} (key : X → List ℕ) (t : List ℕ) (q : X → Bool)
 none_there key t q [] h = refl
 none_there key t q (x ∷ xs) h =
     let parts = or_parts (text_eq t (key x)) (has_text t (map key xs)) h in
-    and_from (not (text_eq (key x) t) || q x) (list_all (λ y. not (text_eq (key y) t) || q y) xs) (ap (λ b. not b || q x) (text_eq-comm (key x) t ∙ parts.0)) (none_there key t q xs parts.1)
+    and_from (not (text_eq (key x) t) || q x) (list_all (λ y. not (text_eq (key y) t) || q y) xs) (ap (λ b. not b || q x) (text_eq-sym (key x) t ∙ parts.0)) (none_there key t q xs parts.1)
 
 -- where no text stands twice, what holds of the first element with a text holds of each
 pub only_there : {X : Type 0} (key : X → List ℕ) (t : List ℕ) (q : X → Bool) (xs : List X) → has_twice (map key xs) ≡ false → some_is q (find (λ x. text_eq (key x) t) xs) ≡ true

@@ -9,9 +9,10 @@ use Rattle.scene_model.specs.declared.event.Op.TheVariants.{Spawn, Set}
 use Rattle.peer_model.specs.Heard.{Who, Heard, does, comes, goes, gets}
 use Rattle.peer_model.specs.Rows.{OwnRow, own_rows, next_number, row_made, count_from, spawned_scene, syncs_at}
 use Rattle.peer_laws.specs.Built.{Accepts, AllAccepted}
-use Rattle.peer_laws.proofs.Each.{every_joined, all_joined, all_weaker, all-filter}
+use Rattle.peer_laws.proofs.Each.{every_joined, all_joined, all-filter}
 use Rattle.peer_laws.proofs.Rows.{rows_come, rows_go, rows_set, rows_receive, rows_spawn, next_come, next_go, next_set, next_receive, next_spawn}
 use Rattle.peer_laws.proofs.TreeSpawns.{spawn_is_allowed}
+use Rattle.headless_tree.proofs.Order.{all_weaker}
 
 -- a row that an accepted spawn made
 pub record IsMade (who : Who) (r : OwnRow) : Type 0 where

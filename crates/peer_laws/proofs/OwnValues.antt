@@ -1,6 +1,6 @@
 -- The values of an own row stand in the tree, so that the packet that shows it has them.
 use Rattle.std.proofs.Common.{◌≡◌, ℕ, ℤ, Bool, true, false, cond, ◌||◌, List, [], ◌∷◌, refl, sym, ap, ◌∙◌, map, Some, None}
-use Rattle.std.specs.Prelude.{find, flat_map, option_map, option_and_then, int_lt, if◌then◌else◌}
+use Rattle.std.specs.Prelude.{find, flat_map, option_map, option_and_then, if◌then◌else◌}
 use Rattle.std.specs.List.{list_all, list_any, All, Contains, AllByRecursion}
 use Rattle.std.specs.Ordering.{int_eq}
 use Rattle.std.proofs.lemmas.List.Elements.{All-from_recursion, All-contains}
@@ -16,16 +16,14 @@ use Rattle.scene_model.specs.declared.event.Op.TheVariants.{Spawn}
 use Rattle.scene_model.specs.Lookup.{scene_at, has_prop, value_in}
 use Rattle.scene_model.specs.Valid.{IsValidScene, has_twice}
 use Rattle.peer_model.specs.Heard.{Who, Heard, does}
-use Rattle.peer_model.specs.Peers.{peers_up}
 use Rattle.peer_model.specs.Rows.{OwnRow, own_rows, syncs_at, row_made, spawned_path}
 use Rattle.peer_model.specs.Values.{own_value, props_in}
 use Rattle.peer_model.specs.Updates.{Live, Show, live_at, all_spawn_props}
 use Rattle.peer_model.specs.Changes.{show_of}
 use Rattle.peer_model.specs.View.{view, own_values, own_live, fixed_now, rows_of, authorities, tree_of}
 use Rattle.peer_model.specs.Answer.{update_packet}
-use Rattle.peer_model.proofs.Nodes.{text_eq-comm}
-use Rattle.peer_model.proofs.Lists.{any-put_by, any-map, found_is_any}
-use Rattle.peer_model.proofs.Texts.{text_eq-true, text_eq-same}
+use Rattle.scene_model.proofs.TextLaws.{text_eq-sym, text_eq-true, text_eq-same}
+use Rattle.scene_model.proofs.ListLaws.{any-map, found_is_any}
 use Rattle.headless_tree.specs.Nodes.{value_at}
 use Rattle.peer_laws.specs.Built.{Accepts}
 use Rattle.peer_laws.specs.Facts.{Facts, paths_of}
@@ -36,7 +34,7 @@ use Rattle.peer_laws.proofs.Places.{find_past, find_among}
 use Rattle.peer_laws.proofs.Rows.{rows_spawn}
 use Rattle.peer_laws.proofs.Scenes.{spawn_props_named}
 use Rattle.peer_laws.proofs.TreeSpawns.{spawn_is_allowed}
-use Rattle.std.proofs.lemmas.Bool.Decides.{Decides-int_eq}
+use Rattle.peer_model.proofs.Nodes.{this_is_there}
 
 -- nodes whose paths are apart are found by them
 
@@ -51,9 +49,6 @@ each_found [] h = tt
 each_found (x ∷ xs) h =
     let parts = or_parts (has_text x.path (paths_of xs)) (has_twice (paths_of xs)) h in
     (ap (λ b. cond b (Some x) (live_at xs x.path)) (text_eq-same x.path), found_later x xs xs parts.0 (each_found xs parts.1))
-
-this_is_there : (who : Who) (es : List Heard) → list_any (λ c. int_eq c who.id) (authorities who es) ≡ true
-this_is_there who es = any-put_by (λ c. int_eq c who.id) int_lt who.id (peers_up es) ∙ ap (λ b. b || list_any (λ c. int_eq c who.id) (peers_up es)) ((Decides-int_eq who.id who.id).1 refl)
 
 rows_here : (who : Who) (es : List Heard) (c : ℤ) → int_eq c who.id ≡ true → rows_of who es c ≡ map (own_live who es) (own_rows who es)
 rows_here who es c e = ap (λ b. if b then map (own_live who es) (own_rows who es) else (view who es c).rows) e
@@ -75,7 +70,7 @@ own_row_there who es facts r has =
 
 own_value_in : (who : Who) (es : List Heard) (path p : List ℕ) (props : List Prop) → has_prop p props ≡ true → value_in (own_values who es path props) p ≡ Some (own_value who es path p)
 own_value_in who es path p [] h = absurd (cc h)
-own_value_in who es path p (q ∷ qs) h = step (text_eq q.name p) refl (sym (ap (λ b. b || has_prop p qs) (text_eq-comm p q.name)) ∙ h) (λ e. own_value_in who es path p qs e)
+own_value_in who es path p (q ∷ qs) h = step (text_eq q.name p) refl (sym (ap (λ b. b || has_prop p qs) (text_eq-sym p q.name)) ∙ h) (λ e. own_value_in who es path p qs e)
   where
     step : (b : Bool) → text_eq q.name p ≡ b → (b || has_prop p qs) ≡ true → (has_prop p qs ≡ true → value_in (own_values who es path qs) p ≡ Some (own_value who es path p))
         → option_map (λ (x : Prop). x.value) (cond b (Some (record { name = q.name; value = own_value who es path q.name })) (find (λ (x : Prop). text_eq x.name p) (own_values who es path qs))) ≡ Some (own_value who es path p)

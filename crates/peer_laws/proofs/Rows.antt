@@ -18,7 +18,8 @@ use Rattle.peer_model.proofs.Rows.{rows_after}
 pub use Rattle.peer_model.proofs.Rows.{rows_after_comes as rows_come, rows_after_goes as rows_go, rows_after_spawn as rows_spawn}
 use Rattle.peer_laws.specs.Built.{Accepts, AllAccepted}
 use Rattle.peer_laws.specs.Facts.{is_below}
-use Rattle.peer_laws.proofs.Each.{all_joined, all_weaker, all-filter}
+use Rattle.peer_laws.proofs.Each.{all_joined, all-filter}
+use Rattle.headless_tree.proofs.Order.{all_weaker}
 
 -- own rows
 

@@ -18,7 +18,7 @@ use Rattle.scene_model.specs.Lookup.{fixed_paths, fixed_node, fixed_node_at, spa
 use Rattle.scene_model.specs.Valid.{IsValidScene, has_twice, node_why, scene_why, bad_at, first_bad, path_wrong, node_prop_twice, node_no_prop, no_target, under_shared, no_scene, methods_wrong, value_long, auth_wrong, most_entries, count_on_change, synced, names_no_prop}
 use Rattle.peer_model.specs.Updates.{spawner_with, scene_name_of, custom_byte, shown_place}
 use Rattle.peer_model.specs.Values.{props_in}
-use Rattle.peer_model.proofs.Nodes.{text_eq-comm}
+use Rattle.scene_model.proofs.TextLaws.{text_eq-sym}
 use Rattle.std.proofs.lemmas.List.Folds.{list_all-map}
 use Rattle.peer_laws.proofs.Each.{all-filter, all_joined, none_fail, text_fails}
 use Rattle.scene_model.specs.declared.scene.SyncDef.{SyncDef}
@@ -211,7 +211,7 @@ some_more (Some n) = refl
 
 placed_in : (name : List ℕ) (ds : List SceneDef) → is_some (place_of name (map (λ (d : SceneDef). d.name) ds)) ≡ is_some (find (λ (d : SceneDef). text_eq d.name name) ds)
 placed_in name [] = refl
-placed_in name (d ∷ ds) = ap (λ b. is_some (cond b (Some 0) (option_map (λ n. n + 1) (place_of name (map (λ (d : SceneDef). d.name) ds))))) (text_eq-comm name d.name)
+placed_in name (d ∷ ds) = ap (λ b. is_some (cond b (Some 0) (option_map (λ n. n + 1) (place_of name (map (λ (d : SceneDef). d.name) ds))))) (text_eq-sym name d.name)
     ∙ step (text_eq d.name name) (placed_in name ds)
   where
     step : (b : Bool) → is_some (place_of name (map (λ (d : SceneDef). d.name) ds)) ≡ is_some (find (λ (d : SceneDef). text_eq d.name name) ds)

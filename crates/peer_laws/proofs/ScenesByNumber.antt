@@ -11,8 +11,7 @@ use Rattle.scene_model.specs.declared.scene.CustomDef.{CustomDef}
 use Rattle.scene_model.specs.Lookup.{fixed_node, fixed_node_at, fixed_path_id, spawner_of, spawner_at}
 use Rattle.scene_model.specs.Valid.{IsValidScene, node_why}
 use Rattle.peer_model.specs.Updates.{spawner_with, scene_name_of, custom_byte}
-use Rattle.peer_model.proofs.Nodes.{text_eq-comm}
-use Rattle.peer_model.proofs.Texts.{text_eq-true}
+use Rattle.scene_model.proofs.TextLaws.{text_eq-sym, text_eq-true}
 use Rattle.peer_laws.proofs.Places.{all_found}
 use Rattle.peer_laws.proofs.Tests.{never}
 use Rattle.headless_tree.proofs.Numbered.{unnot}
@@ -53,10 +52,10 @@ found_place path n (m ∷ ms) h = step (text_eq m.path path) refl (found_place p
 
     step : (b : Bool) → text_eq m.path path ≡ b → (find (λ (x : Node). text_eq x.path path) ms ≡ Some n → (i : ℕ) × (place_of path paths ≡ Some i) × (slice_get ms i ≡ Some n))
         → cond b (Some m) (find (λ (x : Node). text_eq x.path path) ms) ≡ Some n → (i : ℕ) × (place_of path (m.path ∷ paths) ≡ Some i) × (slice_get (m ∷ ms) i ≡ Some n)
-    step true e more k = (0, ap (λ b. cond b (Some 0) (option_map (λ j. j + 1) (place_of path paths))) (text_eq-comm path m.path ∙ e), k)
+    step true e more k = (0, ap (λ b. cond b (Some 0) (option_map (λ j. j + 1) (place_of path paths))) (text_eq-sym path m.path ∙ e), k)
     step false e more k =
         let rest = more k in
-        (suc rest.0, ap (λ b. cond b (Some 0) (option_map (λ j. j + 1) (place_of path paths))) (text_eq-comm path m.path ∙ e) ∙ ap (option_map (λ j. j + 1)) rest.1 ∙ ap Some (next_place rest.0), rest.2)
+        (suc rest.0, ap (λ b. cond b (Some 0) (option_map (λ j. j + 1) (place_of path paths))) (text_eq-sym path m.path ∙ e) ∙ ap (option_map (λ j. j + 1)) rest.1 ∙ ap Some (next_place rest.0), rest.2)
 
 -- a fixed node is what its path's id names
 pub node_of_id : (s : Scene) (path : List ℕ) (n : Node) → fixed_node s path ≡ Some n → fixed_node_at s (or_else (fixed_path_id s path) 0) ≡ Some n

@@ -54,7 +54,7 @@ all_new n (x ∷ xs) known h =
     ap (λ b. if b then Some n else first_known (n ∷ known) (count_from (n + 1) xs)) (below_new n known h)
     ∙ all_new (n + 1) xs (n ∷ known) (and_from (nat_lt n (n + 1)) (list_all (λ i. nat_lt i (n + 1)) known) (lt-ltb n (n + 1) (omega arith)) (all_lower n (n + 1) (omega arith) known h))
 
-some_again : (o : Option ℕ) → is_some o ≡ true → Some (or_else o 0) ≡ o
+pub some_again : (o : Option ℕ) → is_some o ≡ true → Some (or_else o 0) ≡ o
 some_again None h = absurd (cc h)
 some_again (Some i) h = refl
 

@@ -5,10 +5,11 @@ use Rattle.std.specs.List.{list_any, list_all}
 use Rattle.std.specs.Ordering.{int_eq}
 use Rattle.std.proofs.lemmas.Bool.{and_parts, and_from, or_parts}
 use Rattle.gd_variant.specs.Words.{has_int, put_by, sort_by}
-use Rattle.peer_model.proofs.Lists.{any-put_by}
+use Rattle.scene_model.proofs.ListLaws.{any-put_by}
 use Rattle.headless_tree.proofs.Numbered.{unnot}
 use Rattle.peer_laws.proofs.Numbers.{int_comm, int_above, int_less, not_less, less_not}
-use Rattle.peer_laws.proofs.Each.{all_weaker, all-filter, all-put_by, all_fail}
+use Rattle.peer_laws.proofs.Each.{all-filter, all-put_by, all_fail}
+use Rattle.headless_tree.proofs.Order.{all_weaker}
 
 -- what is put in order
 

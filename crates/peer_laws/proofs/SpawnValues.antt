@@ -13,9 +13,8 @@ use Rattle.scene_model.specs.Valid.{has_twice}
 use Rattle.peer_model.specs.Heard.{Who}
 use Rattle.peer_model.specs.Values.{start_value, scene_made, props_in, argument_prop, argument_for}
 use Rattle.peer_model.specs.Updates.{assign, assign_all}
-use Rattle.peer_model.proofs.Nodes.{text_eq-comm}
-use Rattle.peer_model.proofs.Texts.{text_eq-same}
-use Rattle.peer_model.proofs.Lists.{any-map}
+use Rattle.scene_model.proofs.TextLaws.{text_eq-sym, text_eq-same}
+use Rattle.scene_model.proofs.ListLaws.{any-map}
 use Rattle.peer_laws.specs.Shown.{settings}
 use Rattle.peer_laws.proofs.Joined.{map-map, map_each}
 use Rattle.headless_tree.proofs.Numbered.{none_at}
@@ -57,7 +56,7 @@ last_set sets p = record p { value = or_else (value_in (reverse sets) p.name) p.
 one_more : (s : Prop) (ss : List Prop) (p : Prop) → last_set ss (if text_eq p.name s.name then record p { value = s.value } else p) ≡ last_set (s ∷ ss) p
 one_more s ss p =
     step (text_eq p.name s.name)
-    ∙ ap (λ b. record p { value = or_else (first_some (value_in (reverse ss) p.name) (option_map (λ (x : Prop). x.value) (cond b (Some s) None))) p.value }) (text_eq-comm p.name s.name)
+    ∙ ap (λ b. record p { value = or_else (first_some (value_in (reverse ss) p.name) (option_map (λ (x : Prop). x.value) (cond b (Some s) None))) p.value }) (text_eq-sym p.name s.name)
     ∙ sym (ap (λ o. record p { value = or_else o p.value }) (ap (λ xs. value_in xs p.name) (reverse_onto ss s []) ∙ value-append (reverse ss) (s ∷ []) p.name))
   where
     set_last : (u : Option Variant) → or_else u s.value ≡ or_else (first_some u (Some s.value)) p.value

@@ -22,7 +22,7 @@ use Rattle.peer_model.specs.Rows.{OwnRow, own_rows, next_number, row_made}
 use Rattle.peer_model.specs.Visible.{visible_rows}
 use Rattle.peer_model.specs.Updates.{Update, Hide, Show, Live, Replica, applied}
 use Rattle.peer_model.specs.Changes.{changes, added, with_tells, hides, shows, show_of, hides_and_shows, numbers_of, live_numbers, is_frame}
-use Rattle.peer_model.proofs.Lists.{any-map}
+use Rattle.scene_model.proofs.ListLaws.{any-map}
 use Rattle.peer_model.proofs.Links.{up_after_comes, up_after_goes}
 use Rattle.peer_model.proofs.Shown.{told_is_visible}
 use Rattle.peer_laws.specs.Built.{Accepts, AllAccepted}

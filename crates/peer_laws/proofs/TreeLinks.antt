@@ -19,7 +19,7 @@ use Rattle.headless_tree.specs.Nodes.{is_row_of, without_rows}
 use Rattle.peer_laws.specs.Built.{Accepts, AllAccepted}
 use Rattle.peer_laws.specs.Facts.{Facts}
 use Rattle.peer_laws.proofs.Tests.{not_false}
-use Rattle.peer_laws.proofs.Each.{all_weaker, all_each, none_weaker}
+use Rattle.peer_laws.proofs.Each.{all_each, none_weaker}
 use Rattle.peer_laws.proofs.Numbers.{int_same, int_is, int_comm}
 use Rattle.peer_laws.proofs.Sorted.{filter-put, rising_sorted}
 use Rattle.peer_laws.proofs.Joined.{flat_each, flat-filter, filter-flat, flat_skip_under}
@@ -27,6 +27,7 @@ use Rattle.peer_laws.proofs.Filters.{filter_all, filter_none}
 use Rattle.peer_laws.proofs.Ups.{ups_come, ups_go, ups_apart, come_is_new, go_is_up, not_this}
 use Rattle.peer_laws.proofs.Authorities.{row_other}
 use Rattle.peer_laws.proofs.Views.{rows_are_of}
+use Rattle.headless_tree.proofs.Order.{all_weaker}
 
 -- what a peer's updates made, with the samples, while the peer is up
 abbrev sampled : Who → List Heard → ℤ → List Live

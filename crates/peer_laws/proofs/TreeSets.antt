@@ -23,7 +23,7 @@ use Rattle.peer_model.specs.Updates.{Live, fixed_live}
 use Rattle.peer_model.specs.View.{view, own_values, own_live, rows_of, fixed_now, values_seen, authorities, tree_of, node_at}
 use Rattle.peer_model.specs.Refusals.{owns}
 use Rattle.peer_model.proofs.Rows.{rows_after}
-use Rattle.peer_model.proofs.Nodes.{text_eq-comm}
+use Rattle.scene_model.proofs.TextLaws.{text_eq-sym}
 use Rattle.headless_tree.specs.Lists.{change_first}
 use Rattle.headless_tree.specs.Nodes.{with_value, is_at, is_row_of, is_spawned, assigned}
 use Rattle.headless_tree.proofs.Numbered.{unnot}
@@ -73,7 +73,7 @@ module _ (who : Who) (es : List Heard) (path prop : List ℕ) (value : Variant) 
       → ◌≡◌ {A = Prop} (record { name = p.name; value = own_value who then_set at p.name }) (change_if (λ (x : Prop). x.name) prop (with_value value) (prop_now at p))
   prop_set at p e =
       value_step (text_eq path at) (text_eq prop p.name) p.name (own_value who es at p.name)
-      ∙ ap (λ b. cond b (with_value value (prop_now at p)) (prop_now at p)) (ap (λ b. b && text_eq prop p.name) e ∙ text_eq-comm prop p.name)
+      ∙ ap (λ b. cond b (with_value value (prop_now at p)) (prop_now at p)) (ap (λ b. b && text_eq prop p.name) e ∙ text_eq-sym prop p.name)
 
   prop_kept : (at : List ℕ) (p : Prop) → text_eq path at ≡ false → ◌≡◌ {A = Prop} (record { name = p.name; value = own_value who then_set at p.name }) (prop_now at p)
   prop_kept at p e =
@@ -98,8 +98,8 @@ module _ (who : Who) (es : List Heard) (path prop : List ℕ) (value : Variant) 
     where
       step : (b : Bool) → is_at path n ≡ b
           → ◌≡◌ {A = Live} (record n { values = own_values who then_set n.path props }) (cond b (record n { values = set_prop (own_values who es n.path props) }) (record n { values = own_values who es n.path props }))
-      step true e = ap (λ vs. record n { values = vs }) (values_set n.path props apart (text_eq-comm path n.path ∙ e))
-      step false e = ap (λ vs. record n { values = vs }) (values_kept n.path props (text_eq-comm path n.path ∙ e))
+      step true e = ap (λ vs. record n { values = vs }) (values_set n.path props apart (text_eq-sym path n.path ∙ e))
+      step false e = ap (λ vs. record n { values = vs }) (values_kept n.path props (text_eq-sym path n.path ∙ e))
 
   -- a node of another peer stays
   other_kept : (n : Live) → is_own_there n ≡ true → int_eq n.auth who.id ≡ false → set_node n ≡ n

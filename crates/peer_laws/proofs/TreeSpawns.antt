@@ -24,9 +24,8 @@ use Rattle.peer_model.specs.Updates.{Live, fixed_live}
 use Rattle.peer_model.specs.View.{view, own_live, own_values, values_seen, rows_of, authorities, fixed_now, tree_of, node_at}
 use Rattle.peer_model.specs.Refusals.{owns, may_make, limit_reached, most_rows, most_net_id, last_number, setting_refusals, argument_fits}
 use Rattle.peer_model.proofs.Rows.{rows_after_spawn}
-use Rattle.peer_model.proofs.Lists.{any-map, any-flat_map, found_is_any}
-use Rattle.peer_model.proofs.Nodes.{text_eq-comm}
-use Rattle.peer_model.proofs.Texts.{text_eq-same}
+use Rattle.scene_model.proofs.ListLaws.{any-map, any-flat_map, found_is_any}
+use Rattle.scene_model.proofs.TextLaws.{text_eq-sym, text_eq-same}
 use Rattle.headless_tree.specs.Nodes.{row_before, is_at, is_row_of}
 use Rattle.peer_laws.specs.Built.{Accepts, AllAccepted}
 use Rattle.peer_laws.specs.Facts.{Facts, is_below}
@@ -134,7 +133,7 @@ module _ (who : Who) (es : List Heard) (valid : IsValidScene who.scene) (before 
   -- a node at another path keeps its values
   values_kept : (path : List ℕ) (props : List Prop) → text_eq path (spawned_path who o) ≡ false
       → own_values who (does (Spawn o) ∷ es) path props ≡ own_values who es path props
-  values_kept path props other = ap (λ b. map {B = Prop} (λ (p : Prop). record { name = p.name; value = or_else (if b then Some (start_value who o p.name) else None) (own_value who es path p.name) }) props) (text_eq-comm (spawned_path who o) path ∙ other)
+  values_kept path props other = ap (λ b. map {B = Prop} (λ (p : Prop). record { name = p.name; value = or_else (if b then Some (start_value who o p.name) else None) (own_value who es path p.name) }) props) (text_eq-sym (spawned_path who o) path ∙ other)
 
   fixed_kept : (n : Node) → text_eq n.path (spawned_path who o) ≡ false → fixed_now who (does (Spawn o) ∷ es) n ≡ fixed_now who es n
   fixed_kept n other = ap (λ vs. record (fixed_live n) { values = if int_eq n.auth who.id then vs else values_seen who es n }) (values_kept n.path n.props other)

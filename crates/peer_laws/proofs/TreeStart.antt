@@ -15,8 +15,8 @@ use Rattle.peer_model.specs.Rows.{own_rows}
 use Rattle.peer_model.specs.Values.{own_value}
 use Rattle.peer_model.specs.Updates.{Live, fixed_live, fixed_of, live_at}
 use Rattle.peer_model.specs.View.{view, own_live, own_values, values_seen, rows_of, fixed_now, tree_of}
-use Rattle.peer_model.proofs.Lists.{any-map}
-use Rattle.peer_model.proofs.Texts.{text_eq-same}
+use Rattle.scene_model.proofs.ListLaws.{any-map}
+use Rattle.scene_model.proofs.TextLaws.{text_eq-same}
 use Rattle.headless_tree.specs.Nodes.{fixed_nodes}
 use Rattle.headless_tree.proofs.Numbered.{none_at}
 use Rattle.peer_laws.proofs.Numbers.{int_same}

@@ -27,7 +27,7 @@ use Rattle.peer_model.specs.Updates.{Update, Show, Live, Replica, applied, shown
 use Rattle.peer_model.specs.View.{view, updates_in, updates_from, samples_of, best_sample, with_sample, with_samples, sampled_values, rows_while, own_live, rows_of, authorities, fixed_now, tree_of, node_at}
 use Rattle.peer_model.specs.Refusals.{most_rows}
 use Rattle.peer_model.specs.Faults.{link_fault, spawn_fault, auth_is, bad_id, first_known, known_ids, wrong_spawn}
-use Rattle.peer_model.proofs.Lists.{any-put_by}
+use Rattle.scene_model.proofs.ListLaws.{any-put_by}
 use Rattle.peer_model.proofs.Shown.{joined_updates}
 use Rattle.headless_tree.specs.Nodes.{is_row_of}
 use Rattle.peer_laws.specs.Built.{Accepts, AllAccepted, is_spawn}

@@ -20,13 +20,14 @@ use Rattle.peer_model.specs.Ticks.{tick_of, sampled}
 use Rattle.peer_model.specs.Answer.{Parcel, reliable, own_sends, sends, sends_to, change_sends, sample_sends, update_packet}
 use Rattle.peer_model.specs.Bytes.{PacketForm, out_of}
 use Rattle.peer_laws.specs.Built.{AllAccepted, is_built}
-use Rattle.peer_laws.proofs.Each.{all-sort_by, all_weaker, none_weaker}
+use Rattle.peer_laws.proofs.Each.{all-sort_by, none_weaker}
 use Rattle.peer_laws.proofs.Filters.{all_pass}
 use Rattle.peer_laws.proofs.Joined.{flat_each}
 use Rattle.peer_laws.proofs.Numbers.{lt_apart, int_is, int_comm}
 use Rattle.peer_laws.proofs.Sorted.{is_rising}
 use Rattle.peer_laws.proofs.Told.{adds}
 use Rattle.peer_laws.proofs.Ups.{has_up, ups_apart, up_is_direct}
+use Rattle.headless_tree.proofs.Order.{all_weaker}
 
 -- what is built sends no packet of its own, and is no frame
 

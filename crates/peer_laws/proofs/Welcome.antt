@@ -26,7 +26,7 @@ use Rattle.peer_model.specs.View.{view, updates_from, own_live, rows_of, authori
 use Rattle.peer_model.specs.Answer.{update_packet}
 use Rattle.peer_model.specs.Faults.{fault_of, known_ids, bad_id, first_known, auth_is, wrong_spawn}
 use Rattle.peer_model.specs.Refusals.{most_rows}
-use Rattle.peer_model.proofs.Lists.{any-map, any-flat_map, found_is_any}
+use Rattle.scene_model.proofs.ListLaws.{any-map, any-flat_map, found_is_any}
 use Rattle.headless_tree.specs.Nodes.{is_at, is_row_of}
 use Rattle.headless_tree.proofs.Numbered.{none_at}
 use Rattle.peer_laws.specs.Built.{Accepts, AllAccepted}

@@ -1,12 +1,12 @@
 -- Links: who is up and who ever came, one event later.
-use Rattle.std.proofs.Common.{◌≡◌, ℤ, true, false, not, ◌&&◌, ◌||◌, List, [], ◌∷◌, refl, Some, None}
+use Rattle.std.proofs.Common.{◌≡◌, ℤ, true, false, not, ◌&&◌, ◌||◌, List, ◌∷◌, refl, Some, None}
 use Rattle.std.specs.Prelude.{filter_map, if◌then◌else◌}
 use Rattle.std.specs.List.{cons_option}
 use Rattle.std.specs.Ordering.{int_eq}
 use Rattle.gd_variant.specs.Words.{has_int, or_else, newest}
 use Rattle.peer_model.specs.Heard.{Heard, comes, goes}
 use Rattle.peer_model.specs.Peers.{is_up, was_up, peers_come, brought_up, news_of}
-use Rattle.peer_model.proofs.Lists.{any-filter_map}
+use Rattle.scene_model.proofs.ListLaws.{any-filter_map}
 
 -- a peer was up where it is among those that came
 pub was_up_come : (es : List Heard) (b : ℤ) → was_up es b ≡ has_int b (peers_come es)

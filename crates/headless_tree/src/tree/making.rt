@@ -11,7 +11,7 @@ ghost use Rattle.peer_model.specs.Values.{props_in};
 ghost use Rattle.headless_tree.specs.declared.node.NodeNow.{NodeNow as NodeOf};
 ghost use Rattle.headless_tree.specs.Numbers.{are_free, are_new};
 ghost use Rattle.headless_tree.specs.Order.{are_in_order};
-ghost use Rattle.headless_tree.specs.Nodes.{live, fixed_nodes, is_spawned, row_before, spawned_node, insert_no, IsRefused};
+ghost use Rattle.headless_tree.specs.Nodes.{live, fixed_nodes, is_spawned, row_before, spawned_node, insert_no, HasFixed, IsRefused};
 
 use super::Tree;
 use super::paths::{joined, put_path};
@@ -80,7 +80,8 @@ impl Tree {
     fn new_path(&self, alloc: Global, under: &str, name: &str) -> Result<Text, TreeNo>
         requires under { HasNoZero under.now }
         requires name { HasNoZero name.now }
-        ensures { MatchResult result (λ p. (p ≡ joined_of under.now name.now) × (insert_no self.now.nodes under.now name.now ≡ None)) (λ e. IsRefused (insert_no self.now.nodes under.now name.now) e) }
+        ensures path { MatchResult result (λ p. (p ≡ joined_of under.now name.now) × (insert_no self.now.nodes under.now name.now ≡ None)) (λ e. IsRefused (insert_no self.now.nodes under.now name.now) e) }
+        ensures fixed { HasFixed self.now }
     {
         match self.node_at(under) {
             Some(_) => match joined(alloc, under, name) {
@@ -142,7 +143,9 @@ impl Tree {
         requires name { HasNoZero name.now }
         requires scene { scene < length self.old.scene.scenes }
         requires numbers { are_new auth num ids.now self.old.nodes ≡ true }
-        ensures { MatchResult result (λ _. (insert_no self.old.nodes under.now name.now ≡ None) × (self.new ≡ record self.old { nodes = put_by row_before (spawned_node self.old.scene (joined_of under.now name.now) auth num ids.now scene) self.old.nodes })) (λ e. IsRefused (insert_no self.old.nodes under.now name.now) e × (self.new ≡ self.old)) }
+        ensures added { MatchResult result (λ _. (insert_no self.old.nodes under.now name.now ≡ None) × (self.new ≡ record self.old { nodes = put_by row_before (spawned_node self.old.scene (joined_of under.now name.now) auth num ids.now scene) self.old.nodes })) (λ e. IsRefused (insert_no self.old.nodes under.now name.now) e × (self.new ≡ self.old)) }
+        // a node of the scene is always there to be a parent
+        ensures fixed { HasFixed self.old }
     {
         match self.new_path(alloc, under, name) {
             Ok(path) => match self.copies(alloc, ids, scene) {

@@ -1,4 +1,6 @@
+use Rattle.std.proofs.Common.{ap, ◌∙◌}
 use Rattle.peer_core.specs.Parts.{parts_kept}
+use Rattle.peer_core.specs.Steps.{done_with}
 use Rattle.peer_core.proofs.Admitted.{admitted}
 use Rattle.peer_core.proofs.Counted.{have_room}
 use Rattle.peer_core.proofs.RightAfter.{right_then}
@@ -16,7 +18,7 @@ count_row-requires c = have_room c.args.from.now c.args.tree.now.nodes c.args.li
 pub returns-in_ok-put_spawn-in-Ok-clause-taken : goal.returns-in_ok-put_spawn-in-Ok-clause-taken
 returns-in_ok-put_spawn-in-Ok-clause-taken c = λ id spent come next rows. spawn_done id spent come c.args.links.now.items c.count_row.new.links.items c.args.tree.now c.put_spawn.new.tree next rows c.args.from.now c.args.spawn c.done.result
     (judged_none (record { id = id; scene = c.args.tree.now.scene }) c.args.tree.now.nodes c.args.links.now.items c.args.from.now c.args.spawn c.as_slice.result.now c.in_ok-making.field-0 c.in-Ok.making c.requires.counted c.requires.up c.as_slice.ensures.value c.in_ok-making.ensures c.in-Ok.is)
-    c.in_ok-put_spawn-in-Ok.ensures.ok c.count_row.ensures c.done.ensures
+    c.in_ok-put_spawn-in-Ok.ensures.ok c.count_row.ensures (c.done.ensures ∙ ap done_with c.new.ensures)
 
 pub returns-in_ok-put_spawn-in-Ok-clause-right : goal.returns-in_ok-put_spawn-in-Ok-clause-right
 returns-in_ok-put_spawn-in-Ok-clause-right c = λ id come next rows right sound. right_then id come c.args.links.now.items c.count_row.new.links.items c.args.tree.now c.put_spawn.new.tree next rows c.args.from.now c.args.spawn right c.requires.up

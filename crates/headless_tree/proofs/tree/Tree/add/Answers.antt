@@ -1,13 +1,14 @@
-use Rattle.std.proofs.Common.{List, sym, ap, ◌∙◌, map, is_some}
+use Rattle.std.proofs.Common.{List, sym, ap, subst, ◌∙◌, map, is_some}
 use Rattle.std.specs.List.{insert, prefix_len, list_any}
 use Rattle.std.specs.String.{string_bytes}
 use Rattle.headless_tree.specs.declared.node.NodeNow.{NodeNow}
 use Rattle.scene_model.proofs.ListLaws.{found_is_any}
 use Rattle.peer_model.specs.Updates.{Live}
-use Rattle.headless_tree.specs.Nodes.{TreeOf, live, is_at, row_before}
+use Rattle.headless_tree.specs.Nodes.{TreeOf, KeepsFixed, live, is_at, row_before}
 use Rattle.headless_tree.specs.Numbers.{are_free, has_paths_once, has_its_path, is_numbered}
 use Rattle.headless_tree.specs.Order.{are_in_order}
 use Rattle.headless_tree.proofs.Order.{order_put, first_new}
+use Rattle.headless_tree.proofs.Fixed.{keeps_more}
 use Rattle.headless_tree.proofs.Changes.{map-insert}
 use Rattle.headless_tree.proofs.Numbered.{once_insert, all_insert, numbered_beside}
 use Rattle.headless_tree.proofs.Made.{free_path, paths_put_in, put_in, put_seen}
@@ -29,6 +30,7 @@ invariant_of-self-2 c =
       ap (is_numbered c.note.new.self) seen ∙ all_insert (has_its_path c.note.new.self) all c.count_before-at.result (live c.args.node) c.in_ok-note.ensures.put beside,
       ap are_in_order (put_seen c.self.inside.nodes.items c.insert.new.self.items c.count_before-at.result c.args.node put (c.count_before-at.ensures.count ∙ ap (prefix_len (λ (m : NodeNow). row_before (live m) (live c.args.node))) (c.as_slice.ensures.value ∙ c.in_ok-reserve.ensures.items)))
           ∙ order_put (live c.args.node) all c.requires.spawned (first_new (live c.args.node) all c.requires.spawned (ap (are_free (live c.args.node)) same ∙ c.requires.numbers)) c.self.invariant.3,
+      subst (KeepsFixed c.self.inside.scene) (sym seen) (keeps_more c.self.inside.scene all c.count_before-at.result (live c.args.node) c.requires.spawned c.self.invariant.4),
     )
 
 pub returns-clause-ok : goal.returns-clause-ok
@@ -45,6 +47,7 @@ invariant_of-self-in_err-note c =
       ap (λ (xs : List NodeNow). is_numbered c.note.new.self (map live xs)) stays
           ∙ numbered_beside (live c.args.node) (map live c.self.inside.nodes.items) c.self.inside.numbers c.note.new.self (ap (are_free (live c.args.node)) same ∙ c.requires.numbers) c.note.ensures.others c.self.invariant.2,
       ap (λ (xs : List NodeNow). are_in_order (map live xs)) stays ∙ c.self.invariant.3,
+      subst (λ (xs : List NodeNow). KeepsFixed c.self.inside.scene (map live xs)) (sym stays) c.self.invariant.4,
     )
 
 pub invariant_of-self-in_err-put_path : goal.invariant_of-self-in_err-put_path
@@ -56,4 +59,5 @@ invariant_of-self-in_err-put_path c =
       ap (λ (xs : List NodeNow). is_numbered c.note.new.self (map live xs)) stays
           ∙ numbered_beside (live c.args.node) (map live c.self.inside.nodes.items) c.self.inside.numbers c.note.new.self (ap (are_free (live c.args.node)) same ∙ c.requires.numbers) c.note.ensures.others c.self.invariant.2,
       ap (λ (xs : List NodeNow). are_in_order (map live xs)) stays ∙ c.self.invariant.3,
+      subst (λ (xs : List NodeNow). KeepsFixed c.self.inside.scene (map live xs)) (sym stays) c.self.invariant.4,
     )

@@ -1,7 +1,9 @@
-use Rattle.std.proofs.Common.{◌<◌, List, length, get_or, ap, subst, ◌∙◌}
+use Rattle.std.proofs.Common.{◌<◌, ◌≤◌, List, map, length, get_or, ap, subst, ◌∙◌}
 use Rattle.std.specs.String.{string_bytes}
 use Rattle.scene_model.specs.declared.scene.Node.{Node}
-use Rattle.headless_tree.proofs.Made.{made_fresh, made_more, made_numbered, made_in_order}
+use Rattle.headless_tree.proofs.Made.{made_fresh, made_more, made_all, made_numbered, made_in_order}
+use Rattle.headless_tree.specs.Nodes.{live}
+use Rattle.headless_tree.proofs.Fixed.{keeps_new}
 use Rattle.headless_tree.proofs.tree.Tree.new.Goals as goal
 
 pub put_path-requires-clause-fresh : goal.put_path-requires-clause-fresh
@@ -17,4 +19,12 @@ loop-at-preserved c =
     made_more string_bytes c.args.scene.now c.loop-at.at c.loop-at.nodes.items c.push.new.self.items c.loop-at.paths.keys c.put_path.new.paths.keys c.node-item.result c.in_ok-fixed.field-0 low is c.loop-at.invariant c.in_ok-fixed.ensures c.in_ok-push.ensures.items c.in_ok-put_path.ensures.ok
 
 pub invariant_of-result : goal.invariant_of-result
-invariant_of-result c = (c.loop-at.invariant.paths, c.loop-at.invariant.once, made_numbered string_bytes c.args.scene.now c.loop-at.at c.loop-at.nodes.items c.loop-at.paths.keys c.new-numbers.result c.loop-at.invariant, made_in_order string_bytes c.args.scene.now c.loop-at.at c.loop-at.nodes.items c.loop-at.paths.keys c.loop-at.invariant)
+invariant_of-result c =
+    let past = subst (λ (ns : List Node). length ns ≤ c.loop-at.at) c.as_slice-node-items.ensures c.loop-at-test.false in
+    let all = made_all string_bytes c.args.scene.now c.loop-at.at c.loop-at.nodes.items c.loop-at.paths.keys past c.loop-at.invariant in (
+      c.loop-at.invariant.paths,
+      c.loop-at.invariant.once,
+      made_numbered string_bytes c.args.scene.now c.loop-at.at c.loop-at.nodes.items c.loop-at.paths.keys c.new-numbers.result c.loop-at.invariant,
+      made_in_order string_bytes c.args.scene.now c.loop-at.at c.loop-at.nodes.items c.loop-at.paths.keys c.loop-at.invariant,
+      keeps_new c.args.scene.now c.in_ok-scene.scene (map live c.loop-at.nodes.items) c.in_ok-scene.ensures all,
+    )

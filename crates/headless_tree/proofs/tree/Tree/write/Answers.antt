@@ -3,6 +3,7 @@ use Rattle.std.specs.List.{slice_set}
 use Rattle.headless_tree.specs.Nodes.{live}
 use Rattle.headless_tree.proofs.Spots.{written, paths_stay, only_values, low_in}
 use Rattle.headless_tree.proofs.Order.{order_same}
+use Rattle.headless_tree.proofs.Fixed.{keeps_same}
 use Rattle.headless_tree.proofs.Numbered.{once_same, numbered_same}
 use Rattle.headless_tree.proofs.tree.Tree.write.Goals as goal
 
@@ -14,6 +15,7 @@ invariant_of-self c =
       once_same (map live after) (map live c.self.inside.nodes.items) same c.self.invariant.1,
       numbered_same c.self.inside.numbers (map live after) (map live c.self.inside.nodes.items) same c.self.invariant.2,
       order_same (map live after) (map live c.self.inside.nodes.items) same c.self.invariant.3,
+      keeps_same c.self.inside.scene (map live after) (map live c.self.inside.nodes.items) same c.self.invariant.4,
     )
 
 pub returns : goal.returns

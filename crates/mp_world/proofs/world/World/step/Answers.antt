@@ -1,14 +1,12 @@
 use Rattle.mp_world.specs.Steps.{live_parts}
 use Rattle.mp_world.proofs.Clauses.{step_answers, step_stands, step_unchanged, sound_values}
 use Rattle.mp_world.proofs.Calls.{step_is, step_scene}
-use Rattle.std.proofs.Common.{◌∙◌}
+use Rattle.std.proofs.Common.{sym, subst}
+use Rattle.scene_model.specs.Valid.{IsValidScene}
 use Rattle.mp_world.proofs.world.World.step.Goals as goal
 
 pub invariant_of-self : goal.invariant_of-self
-invariant_of-self c = (
-  c.self.invariant.0,
-  λ live. step_scene (live_parts c.self.inside.server c.self.inside.clients.items) (live_parts c.take.new.server c.take.new.clients.items) c.args.event c.in-Ok.outcome c.in-Ok.ensures ∙ c.self.invariant.1 live,
-)
+invariant_of-self c = λ live. subst IsValidScene (sym (step_scene (live_parts c.self.inside.server c.self.inside.clients.items) (live_parts c.take.new.server c.take.new.clients.items) c.args.event c.in-Ok.outcome c.in-Ok.ensures)) (c.self.invariant live)
 
 pub returns-in-Ok-clause-answer : goal.returns-in-Ok-clause-answer
 returns-in-Ok-clause-answer c = λ es h.
@@ -25,4 +23,4 @@ pub returns-in-Ok-clause-scene : goal.returns-in-Ok-clause-scene
 returns-in-Ok-clause-scene c = step_scene c.args.self.now _ c.args.event c.in-Ok.outcome (step_is c.args.self.now _ _ _ _ _ c.args.event c.in-Ok.outcome c.self.view_is c.if-self.false c.in-Ok.ensures)
 
 pub take-requires : goal.take-requires
-take-requires c = record { built = c.requires.built; sound = sound_values c.args.event c.requires.sound; valid = c.self.invariant.0; scene = c.self.invariant.1 c.if-self.false }
+take-requires c = record { built = c.requires.built; sound = sound_values c.args.event c.requires.sound; valid = c.self.invariant c.if-self.false }
