@@ -12,6 +12,3 @@ pub use numbers::{u8_at, u16_at, u32_at, u64_at};
 pub use signed::{bits8, bits16, bits32, bits64};
 pub use text::is_text;
 pub use writing::{put_bytes, put_u8, put_u16, put_u32, put_u64};
-
-#[cfg(test)]
-mod tests;

@@ -23,8 +23,3 @@ pub use decode::decode_packet;
 pub use encode::encode_packet;
 pub use laws::{bounded, read_faults, read_frames, round_trip, written_frames};
 pub use length::packet_len;
-
-#[cfg(test)]
-mod tests;
-#[cfg(test)]
-mod tests_encode;

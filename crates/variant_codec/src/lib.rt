@@ -18,6 +18,3 @@ pub use form::Form;
 pub use parts::{fault_at, is_without_zero, raw_of, text_of, utf8_of};
 pub use reading::{small_of, value_of};
 pub use writing::{put, put_small};
-
-#[cfg(test)]
-mod tests;

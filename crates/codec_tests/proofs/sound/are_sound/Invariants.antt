@@ -1,6 +1,6 @@
 use Rattle.std.proofs.Common.{take}
 use Rattle.packet_codec.specs.Written.{AreSound}
-use Rattle.packet_codec.proofs.tests_encode.are_sound.Given as goal
+use Rattle.codec_tests.proofs.sound.are_sound.Given as goal
 
 -- the values in front are sound
 abbrev pub invariant-loop-value : goal.invariant-loop-value

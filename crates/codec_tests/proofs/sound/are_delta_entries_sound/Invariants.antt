@@ -1,7 +1,7 @@
 use Rattle.std.proofs.Common.{take}
 use Rattle.std.specs.List.{AllByRecursion}
 use Rattle.packet_codec.specs.Written.{IsDeltaEntrySound}
-use Rattle.packet_codec.proofs.tests_encode.are_delta_entries_sound.Given as goal
+use Rattle.codec_tests.proofs.sound.are_delta_entries_sound.Given as goal
 
 -- the entries in front are sound
 abbrev pub invariant-loop-entry : goal.invariant-loop-entry
