@@ -1,35 +1,27 @@
 //! The definitions on a small tree, as equations.
 ghost use Rattle.headless_tree.specs.Examples.{GoesByNumber, GoesByAuthority, InOrder, OutOfOrder, NoParent, TakenPath, FreePath, FixedStays, SpawnedGoes, RowsGo, OneChanges, ValueIsThere, LacksProperty};
 
-fn nodes_go_by_authority_and_number()
+pub fn nodes_go_by_authority_and_number()
     ensures number { GoesByNumber }
     ensures authority { GoesByAuthority }
     ensures order { InOrder }
     ensures disorder { OutOfOrder }
 {}
 
-fn new_paths_are_free_below_a_node()
+pub fn new_paths_are_free_below_a_node()
     ensures parent { NoParent }
     ensures taken { TakenPath }
     ensures free { FreePath }
 {}
 
-fn only_spawned_nodes_go()
+pub fn only_spawned_nodes_go()
     ensures fixed { FixedStays }
     ensures spawned { SpawnedGoes }
     ensures rows { RowsGo }
 {}
 
-fn one_property_changes()
+pub fn one_property_changes()
     ensures changed { OneChanges }
     ensures there { ValueIsThere }
     ensures lacking { LacksProperty }
 {}
-
-#[test]
-fn definitions_give_the_worked_rows() {
-    nodes_go_by_authority_and_number();
-    new_paths_are_free_below_a_node();
-    only_spawned_nodes_go();
-    one_property_changes();
-}

@@ -1,12 +1,9 @@
 //! The tree of nodes with their values: the fixed ones of a scene, and those that were spawned.
 #![tactic(auto)]
 
-#[cfg(test)]
-mod examples;
+pub mod examples;
 mod node;
 mod numbers;
-#[cfg(test)]
-mod tests;
 mod tree;
 mod values;
 
