@@ -11,12 +11,8 @@ mod nodes;
 mod operations;
 mod props;
 mod scenes;
-#[cfg(test)]
-mod session_tests;
 mod sessions;
 mod syncs;
-#[cfg(test)]
-mod tests;
 mod values;
 mod words;
 

@@ -3,8 +3,6 @@
 
 mod commands;
 mod session;
-#[cfg(test)]
-mod tests;
 mod words;
 
 pub use commands::run;

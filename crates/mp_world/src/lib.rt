@@ -9,8 +9,6 @@ mod deliver;
 mod laws;
 mod operate;
 mod steps;
-#[cfg(test)]
-mod tests;
 mod way;
 mod world;
 

@@ -4,8 +4,6 @@
 mod laws;
 mod lines;
 mod run;
-#[cfg(test)]
-mod tests;
 
 pub use laws::{ends_without_a_line, small_inputs};
 pub use run::show;

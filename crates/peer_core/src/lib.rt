@@ -17,8 +17,6 @@ mod setting;
 mod shown;
 mod spawning;
 mod taking;
-#[cfg(test)]
-mod tests;
 mod texts;
 mod values;
 

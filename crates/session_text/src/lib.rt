@@ -14,8 +14,6 @@ mod sink;
 mod source;
 mod status;
 mod stop;
-#[cfg(test)]
-mod tests;
 mod values;
 
 pub use decoded::decoded_text;

@@ -1,7 +1,7 @@
 //! A peer of an empty scene: its links, its report, and that it says when it is spent. Spawns and
 //! assignments are run by the sessions of `conformance/`.
-use super::*;
 use gd_variant::OutOfMemory;
+use peer_core::Peer;
 use scene_model::{Event, Outcome, Scene, check};
 use sqlite_items::Items;
 use std::alloc::Global;

@@ -1,7 +1,7 @@
 //! A world over an empty scene: who is up, and what is refused. Sessions with operations are run by the
-//! tests of `mp_replay` and in `conformance/`.
-use super::*;
+//! tests of replays and in `conformance/`.
 use gd_variant::OutOfMemory;
+use mp_world::World;
 use scene_model::{Scene, WorldEvent, WorldNo, WorldOutcome, check};
 use sqlite_items::Items;
 use std::alloc::Global;

@@ -1,10 +1,10 @@
 //! Tables of lines of a session: what each asks for, or the first thing wrong with it.
-use super::*;
+use crate::rows::{check, is_row};
 use gd_variant::Variant;
+use line_text::{LineStop, SessionLine, read_event};
 use scene_model::{Op, PropList, SpawnOp, WorldEvent};
-use session_text::{LineStop, LineWhy};
+use session_text::LineWhy;
 use std::alloc::Global;
-use std::test::*;
 
 /// What a line asks for, and the line. A setting is its name and value behind an equals sign.
 const READ: &str = r#"
@@ -210,11 +210,6 @@ Shape: ["op",1,["spawn","s","p","p1",[["v"],["\u0000",1]]]]
 Name: ["op",1,["spawn","s","p","p1",[["v",{"jump":1}],5]]]
 "#;
 
-/// Whether a line of a table is a row.
-fn is_row(line: &str) -> bool {
-    !line.is_empty() && !line.starts_with('#')
-}
-
 /// A number or a text as it is, or the kind of another value.
 fn told_value(alloc: Global, value: &Variant) -> Option<String> {
     match value {
@@ -289,7 +284,7 @@ fn told_line(alloc: Global, line: &SessionLine) -> Option<String> {
 }
 
 /// What a line asks for, or the name of the first thing wrong with it.
-fn told(alloc: Global, line: &[u8]) -> Option<String> {
+fn answer(alloc: Global, line: &[u8]) -> Option<String> {
     match read_event(alloc, line) {
         Ok(line) => told_line(alloc, &line),
         Err(LineStop::LineBad(why)) => format!(in alloc; "{why}").ok(),
@@ -297,24 +292,28 @@ fn told(alloc: Global, line: &[u8]) -> Option<String> {
     }
 }
 
-#[test]
-fn reads_lines(rt: HostRuntime) -> Result<(), Fail> {
-    for row in READ.lines().filter(|line| is_row(line)) {
-        let (want, line) = row.split_once(": ").ok_or("the line is a row")?;
-        let got = told(rt.alloc(), line.as_bytes()).ok_or("there is memory")?;
-        assert_eq!(rt; got.as_str(), want, "{line}");
-    }
-    Ok(())
+/// What a row wants, and what its line is.
+fn told(alloc: Global, row: &str) -> Option<(&str, String)> {
+    let (want, line) = row.split_once(": ")?;
+    Some((want, answer(alloc, line.as_bytes())?))
 }
 
 #[test]
-fn finds_the_first_thing_wrong(rt: HostRuntime) -> Result<(), Fail> {
-    for row in WRONG.lines().filter(|line| is_row(line)) {
-        let (want, line) = row.split_once(": ").ok_or("the line is a row")?;
-        let got = told(rt.alloc(), line.as_bytes()).ok_or("there is memory")?;
-        assert_eq!(rt; got.as_str(), want, "{line}");
+fn reads_lines(rt: HostRuntime) {
+    for row in READ.lines() {
+        if is_row(row) {
+            check(&rt, row, told(rt.alloc(), row));
+        }
     }
-    Ok(())
+}
+
+#[test]
+fn finds_the_first_thing_wrong(rt: HostRuntime) {
+    for row in WRONG.lines() {
+        if is_row(row) {
+            check(&rt, row, told(rt.alloc(), row));
+        }
+    }
 }
 
 /// Bytes that aren't UTF-8 are no JSON, wherever they stand.
@@ -327,6 +326,6 @@ fn refuses_other_bytes(rt: HostRuntime) {
         b"[\"connect\"]\0",
     ];
     for line in rows {
-        assert_eq!(rt; told(rt.alloc(), line).as_deref(), Some("Json"));
+        assert_eq!(rt; answer(rt.alloc(), line).as_deref(), Some("Json"));
     }
 }
