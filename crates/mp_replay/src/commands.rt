@@ -4,12 +4,14 @@ ghost use Rattle.session_text.specs.declared.status.Status.TheVariants as status
 ghost use Rattle.line_runs.specs.Ends.{MayEnd};
 ghost use Rattle.line_runs.specs.Output.{EndsAs, read_in};
 ghost use Rattle.packet_show.specs.Shown.{IsHex, longest_line, most_judged, show_told};
+ghost use Rattle.mp_world.specs.Scripts.{ReplicasSettle};
 ghost use Rattle.mp_replay.specs.Ends.{AnyReason, is_known, is_replay as is_replay_of, is_show as is_show_of};
 ghost use Rattle.mp_replay.specs.Sessions.{no_scene, replay_told};
 
 use crate::session::Replayer;
 use crate::words::{is_replay, is_show};
 use line_runs::run_lines;
+use mp_world::replicas_settle;
 use packet_show::show;
 use session_text::{Sink, Source, Status};
 use std::alloc::Global;
@@ -70,7 +72,10 @@ pub fn run<S: Source, K: Sink>(
     ensures show_ends { is_show_of words.now ≡ true → MayEnd IsHex (S.faults source.old) (S.faults source.new) (K.faults sink.old) (K.faults sink.new) result }
     ensures show_output { is_show_of words.now ≡ true → (input held : List ℕ) → S.left source.old ≡ Some input → K.held sink.old ≡ Some held → EndsAs (read_in show_told status.Done longest_line most_judged input) held result (K.held sink.new) }
     ensures untouched { is_known words.now ≡ false → (source.new ≡ source.old) × (sink.new ≡ sink.old) }
+    // what holds of the replicas that `output` prints, in every session
+    ensures settles { ReplicasSettle }
 {
+    replicas_settle();
     if is_show(words) {
         return show(alloc, source, sink);
     }
