@@ -9,3 +9,4 @@ pub mod Paths
 pub mod Made
 pub mod Rows
 pub mod Fixed
+pub mod Named

@@ -34,7 +34,7 @@ right_at why xs i x low is left = by (why (take i xs, x)) refl
     by None e = refl
     by (Some w) e = absurd (cc (bad_here why xs i x w None low is left e))
 
-second_none : {X : Type 0} (a b : Bool) (x y : X) (rows : List (Option X)) → first_of (when a x ∷ when b y ∷ rows) ≡ None → b ≡ false
+pub second_none : {X : Type 0} (a b : Bool) (x y : X) (rows : List (Option X)) → first_of (when a x ∷ when b y ∷ rows) ≡ None → b ≡ false
 second_none true b x y rows h = absurd (cc h)
 second_none false true x y rows h = absurd (cc h)
 second_none false false x y rows h = refl
@@ -82,7 +82,7 @@ made_new bytes s at items keys n low is m = ap (list_any (is_at n.path)) m.nodes
 pub made_fresh : {K : Type 0} (bytes : K → List ℕ) (s : Scene) (at : ℕ) (items : List NodeNow) (keys : List K) (n : Node) → at < length s.nodes → n ≡ get_or s.nodes at n → IsMade bytes s at items keys → has_text n.path (map bytes keys) ≡ false
 made_fresh bytes s at items keys n low is m = fresh_path bytes keys items n.path m.paths (made_new bytes s at items keys n low is m)
 
-put_last : {X : Type 0} (xs : List X) (x : X) → insert xs (length xs) x ≡ xs ++ x ∷ []
+pub put_last : {X : Type 0} (xs : List X) (x : X) → insert xs (length xs) x ≡ xs ++ x ∷ []
 put_last [] x = refl
 put_last (y ∷ ys) x = ap (λ zs. y ∷ zs) (put_last ys x)
 

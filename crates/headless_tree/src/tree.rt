@@ -4,6 +4,7 @@ ghost use Rattle.std.specs.List.{list_all, prefix_len, position_or_len, remove_r
 ghost use Rattle.std.specs.Option.{option_copied};
 ghost use Rattle.gd_variant.specs.Words.{text_eq, some_is};
 ghost use Rattle.scene_model.specs.declared.scene.Node.{Node as SceneNode};
+ghost use Rattle.scene_model.specs.declared.scene.SceneDef.{SceneDef as SceneDefOf};
 ghost use Rattle.scene_model.specs.Valid.{IsValidScene};
 ghost use Rattle.peer_model.specs.Updates.{Live, live_at, fixed_live};
 ghost use Rattle.peer_model.specs.View.{row_of as row_seen};
@@ -29,10 +30,12 @@ const MOST_VALUE_BYTES: u64 = 65536;
 
 /// The nodes of one peer: the fixed ones in the order of the scene, then the spawned ones by
 /// authority and number. Each path stands in `paths` at its node's place, and in `numbers` under each
-/// number of its node. The fixed nodes stay.
+/// number of its node. The fixed nodes stay. The name of each spawnable scene stands in `scenes` at the
+/// scene's place.
 #[derive(Drop)]
 pub struct Tree {
     scene: Scene,
+    scenes: IndexSet<String>,
     nodes: Vec<NodeNow>,
     paths: IndexSet<String>,
     numbers: Numbers,
@@ -43,6 +46,7 @@ impl Model for Tree {
     ghost use Rattle.std.specs.String.{string_bytes};
     ghost use Rattle.std.specs.Coded.{codes};
     ghost use Rattle.gd_variant.specs.contracts.value.Variant as variant;
+    ghost use Rattle.scene_model.specs.declared.scene.SceneDef.{SceneDef as SceneDefOf};
     ghost use Rattle.headless_tree.specs.declared.node.NodeNow.{NodeNow as NodeOf};
     ghost use Rattle.headless_tree.specs.Nodes.{TreeOf, KeepsFixed, live};
     ghost use Rattle.headless_tree.specs.Numbers.{has_paths_once, is_numbered};
@@ -54,7 +58,7 @@ impl Model for Tree {
 
     ghost view = { λ t. record { scene = t.scene; nodes = map live t.nodes.items } };
 
-    ghost invariant = { λ t. (map string_bytes t.paths.keys ≡ map (λ (n : NodeOf). n.path) t.nodes.items) × (has_paths_once (map live t.nodes.items) ≡ true) × (is_numbered t.numbers (map live t.nodes.items) ≡ true) × (are_in_order (map live t.nodes.items) ≡ true) × KeepsFixed t.scene (map live t.nodes.items) };
+    ghost invariant = { λ t. (map string_bytes t.paths.keys ≡ map (λ (n : NodeOf). n.path) t.nodes.items) × (has_paths_once (map live t.nodes.items) ≡ true) × (is_numbered t.numbers (map live t.nodes.items) ≡ true) × (are_in_order (map live t.nodes.items) ≡ true) × KeepsFixed t.scene (map live t.nodes.items) × (map string_bytes t.scenes.keys ≡ map (λ (d : SceneDefOf). d.name) t.scene.scenes) };
 }
 
 impl Tree {
@@ -63,6 +67,14 @@ impl Tree {
         ensures { result.now ≡ self.now.scene }
     {
         &self.scene
+    }
+
+    /// The place, from 0, of the spawnable scene with this name among those of the scene.
+    pub fn scene_place(&self, name: &str) -> Option<usize>
+        ensures place { result ≡ position (λ (d : SceneDefOf). text_eq name.now d.name) self.now.scene.scenes }
+        ensures within { IfSome result (λ i. i < length self.now.scene.scenes) }
+    {
+        self.scenes.get_index_of(name)
     }
 
     fn place_of(&self, path: &str) -> Option<usize>

@@ -71,6 +71,8 @@ fixed_place s -> Some(0)
 fixed_place b -> Some(1)
 fixed_place s/p1 -> None
 fixed_place q -> None
+scene_place p -> Some(0)
+scene_place q -> None
 "#;
 
 const NUMBERS: &str = r#"
@@ -295,6 +297,7 @@ fn answer_of_look(alloc: Global, tree: &Tree, call: &str, words: &str) -> Option
         "row_of" => shown(alloc, row_of(tree, words)),
         "rows" => rows(alloc, tree),
         "scene" => shown(alloc, Some(tree.scene().nodes.len())),
+        "scene_place" => shown(alloc, Some(tree.scene_place(words))),
         _ => None,
     }
 }
@@ -354,7 +357,7 @@ fn values_are_assigned_where_they_fit(rt: HostRuntime) {
 }
 
 #[test]
-fn fixed_nodes_are_found_by_path(rt: HostRuntime) {
+fn fixed_nodes_and_scenes_are_found_by_name(rt: HostRuntime) {
     follow(&rt, rt.alloc(), FIXED);
 }
 

@@ -1,8 +1,10 @@
 //! A tree of a scene, and a tree with one node more.
 ghost use Rattle.std.specs.Prelude.{◌≡◌, ◌<◌, ◌≤◌, IfOk, OnOk, OnErr, MatchResult, None, true, length, map};
 ghost use Rattle.std.specs.List.{prefix_len};
+ghost use Rattle.std.specs.String.{string_bytes};
 ghost use Rattle.gd_variant.specs.Text.{HasNoZero};
 ghost use Rattle.gd_variant.specs.Words.{put_by};
+ghost use Rattle.scene_model.specs.declared.scene.SceneDef.{SceneDef as SceneDefOf};
 ghost use Rattle.scene_model.specs.Valid.{IsValidScene};
 ghost use Rattle.scene_model.specs.Lookup.{scene_at};
 ghost use Rattle.scene_model.specs.Paths.{joined as joined_of};
@@ -14,7 +16,7 @@ ghost use Rattle.headless_tree.specs.Order.{are_in_order};
 ghost use Rattle.headless_tree.specs.Nodes.{live, fixed_nodes, is_spawned, row_before, spawned_node, insert_no, HasFixed, IsRefused};
 
 use super::Tree;
-use super::paths::{joined, put_path};
+use super::paths::{joined, put_text};
 use crate::node::{NodeNow, TreeNo};
 use crate::numbers::Numbers;
 use crate::values::Values;
@@ -35,6 +37,18 @@ fn fixed(alloc: Global, node: &Node) -> Result<NodeNow, OutOfMemory>
         scene: None,
         values: Values::from_slice(alloc, node.props.as_slice())?,
     })
+}
+
+/// The names of the scenes of a valid scene, each at its scene's place.
+fn scene_names(alloc: Global, scene: &Scene) -> Result<IndexSet<String>, OutOfMemory>
+    requires { IsValidScene scene.now }
+    ensures { IfOk result (λ names. map string_bytes names.keys ≡ map (λ (d : SceneDefOf). d.name) scene.now.scenes) }
+{
+    let mut names = IndexSet::new(alloc);
+    for (at, def) in scene.scenes.as_slice().iter().enumerate() {
+        put_text(alloc, &mut names, at, &def.name)?;
+    }
+    Ok(names)
 }
 
 fn stands_before(node: &NodeNow, other: &NodeNow) -> bool
@@ -64,12 +78,14 @@ impl Tree {
         let mut paths = IndexSet::new(alloc);
         let numbers = Numbers::new(alloc);
         for (at, node) in scene.nodes.as_slice().iter().enumerate() {
-            put_path(alloc, &mut paths, at, &node.path)?;
+            put_text(alloc, &mut paths, at, &node.path)?;
             nodes.push(fixed(alloc, node)?)?;
         }
+        let scenes = scene_names(alloc, scene)?;
         let scene = scene.try_clone(alloc)?;
         Ok(Tree {
             scene,
+            scenes,
             nodes,
             paths,
             numbers,
@@ -120,7 +136,7 @@ impl Tree {
         self.nodes.reserve(1)?;
         self.numbers.note(alloc, &node)?;
         let at = count_before(self.nodes.as_slice(), &node);
-        put_path(alloc, &mut self.paths, at, &node.path)?;
+        put_text(alloc, &mut self.paths, at, &node.path)?;
         match self.nodes.insert(at, node) {
             Ok(()) => Ok(()),
             Err(_) => unreachable!(),

@@ -1,4 +1,4 @@
-//! The paths of a tree's nodes, in their order.
+//! The paths of a tree's nodes and the names of its scenes, in their order.
 ghost use Rattle.std.specs.Prelude.{◌≡◌, ◌≤◌, ◌++◌, [], ◌∷◌, IfOk, OnOk, OnErr, false, length, map, insert};
 ghost use Rattle.std.specs.String.{string_bytes};
 ghost use Rattle.gd_variant.specs.Text.{HasNoZero};
@@ -9,20 +9,20 @@ use gd_variant::{OutOfMemory, Text};
 use indexmap::IndexSet;
 use std::alloc::Global;
 
-/// Puts a path that isn't there at a place.
-pub fn put_path(
+/// Puts a text that isn't there at a place.
+pub fn put_text(
     alloc: Global,
-    paths: &mut IndexSet<String>,
+    texts: &mut IndexSet<String>,
     at: usize,
-    path: &Text,
+    text: &Text,
 ) -> Result<(), OutOfMemory>
-    requires within { at ≤ length paths.old.keys }
-    requires fresh { has_text path.now (map string_bytes paths.old.keys) ≡ false }
-    ensures ok { OnOk result (map string_bytes paths.new.keys ≡ insert (map string_bytes paths.old.keys) at path.now) }
-    ensures err { OnErr result (paths.new.keys ≡ paths.old.keys) }
+    requires within { at ≤ length texts.old.keys }
+    requires fresh { has_text text.now (map string_bytes texts.old.keys) ≡ false }
+    ensures ok { OnOk result (map string_bytes texts.new.keys ≡ insert (map string_bytes texts.old.keys) at text.now) }
+    ensures err { OnErr result (texts.new.keys ≡ texts.old.keys) }
 {
-    let key = String::from_str(alloc, path.as_str())?;
-    paths.shift_insert(at, key)?;
+    let key = String::from_str(alloc, text.as_str())?;
+    texts.shift_insert(at, key)?;
     Ok(())
 }
 

@@ -14,8 +14,8 @@ use Rattle.headless_tree.proofs.Numbered.{once_insert, all_insert, numbered_besi
 use Rattle.headless_tree.proofs.Made.{free_path, paths_put_in, put_in, put_seen}
 use Rattle.headless_tree.proofs.tree.Tree.add.Goals as goal
 
-pub put_path-requires-clause-fresh : goal.put_path-requires-clause-fresh
-put_path-requires-clause-fresh c = free_path string_bytes c.self.inside.paths.keys c.args.self.now c.self.inside.scene c.self.inside.nodes.items c.args.node.path c.self.invariant.0 c.self.view_is c.requires.path
+pub put_text-requires-clause-fresh : goal.put_text-requires-clause-fresh
+put_text-requires-clause-fresh c = free_path string_bytes c.self.inside.paths.keys c.args.self.now c.self.inside.scene c.self.inside.nodes.items c.args.node.path c.self.invariant.0 c.self.view_is c.requires.path
 
 pub invariant_of-self-2 : goal.invariant_of-self-2
 invariant_of-self-2 c =
@@ -25,12 +25,13 @@ invariant_of-self-2 c =
     let same = ap (λ (t : TreeOf). t.nodes) c.self.view_is in
     let fresh = ap (λ (ns : List Live). list_any (is_at c.args.node.path) ns) same ∙ sym (found_is_any (is_at c.args.node.path) c.args.self.now.nodes) ∙ ap is_some c.requires.path in
     let beside = numbered_beside (live c.args.node) all c.self.inside.numbers c.note.new.self (ap (are_free (live c.args.node)) same ∙ c.requires.numbers) c.note.ensures.others c.self.invariant.2 in (
-      paths_put_in string_bytes c.self.inside.paths.keys c.put_path.new.paths.keys c.self.inside.nodes.items c.insert.new.self.items c.count_before-at.result c.args.node c.self.invariant.0 c.in_ok-put_path.ensures.ok put,
+      paths_put_in string_bytes c.self.inside.paths.keys c.put_text.new.texts.keys c.self.inside.nodes.items c.insert.new.self.items c.count_before-at.result c.args.node c.self.invariant.0 c.in_ok-put_text.ensures.ok put,
       ap has_paths_once seen ∙ once_insert all c.count_before-at.result (live c.args.node) fresh c.self.invariant.1,
       ap (is_numbered c.note.new.self) seen ∙ all_insert (has_its_path c.note.new.self) all c.count_before-at.result (live c.args.node) c.in_ok-note.ensures.put beside,
       ap are_in_order (put_seen c.self.inside.nodes.items c.insert.new.self.items c.count_before-at.result c.args.node put (c.count_before-at.ensures.count ∙ ap (prefix_len (λ (m : NodeNow). row_before (live m) (live c.args.node))) (c.as_slice.ensures.value ∙ c.in_ok-reserve.ensures.items)))
           ∙ order_put (live c.args.node) all c.requires.spawned (first_new (live c.args.node) all c.requires.spawned (ap (are_free (live c.args.node)) same ∙ c.requires.numbers)) c.self.invariant.3,
       subst (KeepsFixed c.self.inside.scene) (sym seen) (keeps_more c.self.inside.scene all c.count_before-at.result (live c.args.node) c.requires.spawned c.self.invariant.4),
+      c.self.invariant.5,
     )
 
 pub returns-clause-ok : goal.returns-clause-ok
@@ -48,16 +49,18 @@ invariant_of-self-in_err-note c =
           ∙ numbered_beside (live c.args.node) (map live c.self.inside.nodes.items) c.self.inside.numbers c.note.new.self (ap (are_free (live c.args.node)) same ∙ c.requires.numbers) c.note.ensures.others c.self.invariant.2,
       ap (λ (xs : List NodeNow). are_in_order (map live xs)) stays ∙ c.self.invariant.3,
       subst (λ (xs : List NodeNow). KeepsFixed c.self.inside.scene (map live xs)) (sym stays) c.self.invariant.4,
+      c.self.invariant.5,
     )
 
-pub invariant_of-self-in_err-put_path : goal.invariant_of-self-in_err-put_path
-invariant_of-self-in_err-put_path c =
+pub invariant_of-self-in_err-put_text : goal.invariant_of-self-in_err-put_text
+invariant_of-self-in_err-put_text c =
     let stays = c.in_ok-reserve.ensures.items in
     let same = ap (λ (t : TreeOf). t.nodes) c.self.view_is in (
-      ap (map string_bytes) c.in_err-put_path.ensures.err ∙ c.self.invariant.0 ∙ ap (map (λ (m : NodeNow). m.path)) (sym stays),
+      ap (map string_bytes) c.in_err-put_text.ensures.err ∙ c.self.invariant.0 ∙ ap (map (λ (m : NodeNow). m.path)) (sym stays),
       ap (λ (xs : List NodeNow). has_paths_once (map live xs)) stays ∙ c.self.invariant.1,
       ap (λ (xs : List NodeNow). is_numbered c.note.new.self (map live xs)) stays
           ∙ numbered_beside (live c.args.node) (map live c.self.inside.nodes.items) c.self.inside.numbers c.note.new.self (ap (are_free (live c.args.node)) same ∙ c.requires.numbers) c.note.ensures.others c.self.invariant.2,
       ap (λ (xs : List NodeNow). are_in_order (map live xs)) stays ∙ c.self.invariant.3,
       subst (λ (xs : List NodeNow). KeepsFixed c.self.inside.scene (map live xs)) (sym stays) c.self.invariant.4,
+      c.self.invariant.5,
     )

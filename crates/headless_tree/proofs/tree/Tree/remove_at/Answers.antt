@@ -22,6 +22,7 @@ invariant_of-self c =
           ∙ numbered_less (map live c.self.inside.nodes.items) c.args.place (live c.remove-node.result) c.self.inside.numbers c.forget.new.self c.forget.ensures.others (slice_get-map live c.self.inside.nodes.items c.args.place ∙ ap (option_map live) (slice_get-get_or c.self.inside.nodes.items c.args.place c.remove-node.result (low_in c.args.self.now c.self.inside.scene c.self.inside.nodes.items c.args.place c.self.view_is c.requires.place) ∙ ap Some (sym c.remove-node.ensures.value))) c.self.invariant.1 c.self.invariant.2,
       ap are_in_order left ∙ order_remove (map live c.self.inside.nodes.items) c.args.place c.self.invariant.3,
       subst (KeepsFixed c.self.inside.scene) (sym left) (keeps_less c.self.inside.scene (map live c.self.inside.nodes.items) c.args.place (ap (λ (t : TreeOf). some_is is_spawned (slice_get t.nodes c.args.place)) c.self.view_is ∙ c.requires.spawned) c.self.invariant.4),
+      c.self.invariant.5,
     )
 
 pub returns : goal.returns

@@ -21,6 +21,7 @@ invariant_of-self c =
       ap (is_numbered c.forget_under.new.self) left ∙ numbered_filter c.args.auth.now c.self.inside.numbers c.forget_under.new.self c.forget_under.ensures.others all c.self.invariant.2,
       ap are_in_order left ∙ order_filter stays all c.self.invariant.3,
       subst (KeepsFixed c.self.inside.scene) (sym left) (keeps_others c.self.inside.scene c.args.auth.now all c.self.invariant.4),
+      c.self.invariant.5,
     )
 
 pub returns : goal.returns

@@ -16,6 +16,7 @@ invariant_of-self c =
       numbered_same c.self.inside.numbers (map live after) (map live c.self.inside.nodes.items) same c.self.invariant.2,
       order_same (map live after) (map live c.self.inside.nodes.items) same c.self.invariant.3,
       keeps_same c.self.inside.scene (map live after) (map live c.self.inside.nodes.items) same c.self.invariant.4,
+      c.self.invariant.5,
     )
 
 pub returns : goal.returns
