@@ -26,7 +26,8 @@ use Rattle.peer_laws.proofs.Numbers.{int_is}
 use Rattle.peer_laws.proofs.Told.{adds}
 use Rattle.peer_laws.proofs.Tests.{or_true}
 use Rattle.peer_core.specs.Kept.{Kept}
-use Rattle.peer_core.specs.Judged.{spawn_judged, set_judged}
+use Rattle.spawn_track.specs.Judged.{spawn_judged}
+use Rattle.peer_core.specs.Judged.{set_judged}
 use Rattle.peer_core.specs.Stands.{StandsFor}
 use Rattle.peer_core.specs.Steps.{Taken, packet_form, taken, op_taken, spawn_taken, set_taken, is_done, plains_taken, AllReadablePlains}
 use Rattle.world_model.specs.World.{World, peer_of, is_in, happens, packets_in, peer_answer, refused_by, refused_or, accepted_answer, answer_at, world_answer, happened}

@@ -23,7 +23,8 @@ use Rattle.peer_model.specs.Bytes.{PacketForm, heard_of, answer, accepted_events
 use Rattle.peer_model.proofs.Accept.{accepted_done}
 use Rattle.peer_laws.specs.Built.{Accepts, AllAccepted}
 use Rattle.peer_core.specs.Kept.{Kept}
-use Rattle.peer_core.specs.Judged.{up_judged, down_judged, spawn_judged, set_judged, link_judged, shown_judged}
+use Rattle.spawn_track.specs.Judged.{spawn_judged, shown_judged}
+use Rattle.peer_core.specs.Judged.{up_judged, down_judged, set_judged, link_judged}
 use Rattle.peer_core.specs.Stands.{StandsFor, is_answered, is_built_event}
 use Rattle.peer_core.specs.Steps.{Taken, taken, up_taken, down_taken, spawn_taken, set_taken, op_taken, shown_taken, message_taken, linked_taken, read_taken, spawn_read, is_done}
 use Rattle.peer_core.proofs.Whole.{taken_right}

@@ -22,7 +22,8 @@ use Rattle.scene_model.specs.declared.world.WorldOutcome.TheVariants as answers
 use Rattle.scene_model.specs.declared.world.WorldNo.TheVariants as refusal
 use Rattle.peer_model.specs.Heard.{Who, server}
 use Rattle.peer_core.specs.Kept.{Kept}
-use Rattle.peer_core.specs.Judged.{link_judged, shown_judged}
+use Rattle.spawn_track.specs.Judged.{shown_judged}
+use Rattle.peer_core.specs.Judged.{link_judged}
 use Rattle.peer_core.specs.Steps.{packet_form, taken, shown_taken, message_taken, linked_taken, read_taken, spawn_read, is_done, AllReadablePlains}
 use Rattle.peer_core.proofs.Whole.{kept_still}
 use Rattle.world_model.specs.World.{World, world, happens, packets_in, peer_answer, world_answer, happened, way_with}

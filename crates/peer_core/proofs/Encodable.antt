@@ -29,8 +29,8 @@ use Rattle.peer_model.specs.View.{fits}
 use Rattle.headless_tree.specs.Nodes.{value_at}
 use Rattle.peer_laws.specs.Shown.{values_in}
 use Rattle.peer_laws.proofs.Places.{all_found}
-use Rattle.peer_core.specs.declared.rows.SpawnedRow.{SpawnedRow}
-use Rattle.peer_core.specs.Rights.{is_right_value, has_right_values, is_right_row}
+use Rattle.spawn_track.specs.declared.rows.SpawnedRow.{SpawnedRow}
+use Rattle.spawn_track.specs.Rights.{is_right_value, has_right_values, is_right_row}
 use Rattle.peer_core.specs.Steps.{packet_form, row_packet}
 use Rattle.peer_core.proofs.SpawnProps.{few_at}
 

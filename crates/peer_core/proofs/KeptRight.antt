@@ -19,13 +19,14 @@ use Rattle.peer_laws.proofs.Numbers.{int_same, int_is, int_comm}
 use Rattle.peer_model.specs.Rows.{count_from, syncs_at, spawned_scene}
 use Rattle.scene_model.specs.declared.event.SpawnOp.{SpawnOp}
 use Rattle.peer_core.specs.declared.links.Link.{Link}
-use Rattle.peer_core.specs.declared.rows.SpawnedRow.{SpawnedRow}
+use Rattle.spawn_track.specs.declared.rows.SpawnedRow.{SpawnedRow}
 use Rattle.peer_core.specs.Links.{new_link, link_before, is_other, raised}
-use Rattle.peer_core.specs.declared.spawning.Site.{Site}
-use Rattle.peer_core.specs.Steps.{row_of_spawn}
-use Rattle.peer_core.specs.Sites.{MaySpawn, who_at, own_made, with_made, after_made}
-use Rattle.peer_core.proofs.SpawnMade.{spawn_values, spawn_row_right}
-use Rattle.peer_core.specs.Rights.{is_right_value, has_right_values, is_right_row, is_counted, has_come, is_known, is_before, AreRight}
+use Rattle.spawn_track.specs.declared.spawning.Site.{Site}
+use Rattle.spawn_track.specs.Rows.{row_of_spawn}
+use Rattle.spawn_track.specs.Sites.{MaySpawn, who_at, own_made, with_made, after_made}
+use Rattle.spawn_track.proofs.SpawnMade.{spawn_values, spawn_row_right}
+use Rattle.spawn_track.specs.Rights.{is_right_value, has_right_values, is_right_row, is_before}
+use Rattle.peer_core.specs.Rights.{is_counted, has_come, is_known, AreRight}
 use Rattle.headless_tree.proofs.Order.{all_weaker}
 
 -- lists

@@ -1,12 +1,4 @@
 pub mod Put
-pub mod Found
-pub mod Assigned
-pub mod PlacesOf
-pub mod Numbering
-pub mod Settled
-pub mod SpawnParts
-pub mod SpawnMade
-pub mod SpawnCalls
 pub mod KeptRight
 pub mod TakenParts
 pub mod Distinct
@@ -17,14 +9,8 @@ pub mod Accepted
 pub mod Packets
 pub mod Whole
 pub mod Clauses
-pub mod Knowns
-pub mod Planned
 pub mod Counted
-pub mod Assigning
-pub mod Admitted
-pub mod Putting
 pub mod SoundRead
 pub mod RightAfter
 pub mod ReceivedParts
 pub mod PeerCalls
-pub mod Parents

@@ -25,7 +25,7 @@ use Rattle.peer_laws.specs.Shown.{is_open, show_packet, values_in}
 use Rattle.peer_laws.proofs.Numbers.{int_same}
 use Rattle.peer_laws.proofs.Ups.{has_up, up_is_direct}
 use Rattle.peer_laws.proofs.Rows.{rows_all}
-use Rattle.peer_core.specs.Kept.{kept_row}
+use Rattle.spawn_track.specs.Rows.{kept_row}
 use Rattle.peer_core.specs.Steps.{row_packet, sent_to, open_rows}
 use Rattle.peer_core.proofs.KeptRight.{or_true, or_left}
 

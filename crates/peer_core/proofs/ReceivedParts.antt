@@ -15,34 +15,38 @@ use Rattle.peer_model.specs.Heard.{Who}
 use Rattle.peer_model.specs.Updates.{Live, shown_node}
 use Rattle.headless_tree.specs.Nodes.{TreeOf, row_before}
 use Rattle.peer_core.specs.declared.links.Link.{Link}
-use Rattle.peer_core.specs.declared.rows.SpawnedRow.{SpawnedRow}
-use Rattle.peer_core.specs.declared.shown.Making.{Making}
+use Rattle.spawn_track.specs.declared.rows.SpawnedRow.{SpawnedRow}
+use Rattle.spawn_track.specs.declared.shown.Making.{Making}
 use Rattle.peer_core.specs.Kept.{Kept}
 use Rattle.peer_core.specs.Links.{peers_of}
 use Rattle.peer_core.specs.Rights.{is_counted}
-use Rattle.peer_core.specs.Judged.{shown_judged}
+use Rattle.spawn_track.specs.Judged.{shown_judged}
 use Rattle.peer_core.specs.Steps.{Taken, done_with, shown_taken, spawn_read, message_taken, linked_taken, read_taken}
-use Rattle.peer_core.specs.Arrivals.{IsMaking, judged_beside, rows_counted, with_row, link_judged_at}
+use Rattle.spawn_track.specs.Arrivals.{IsMaking, judged_beside}
+use Rattle.peer_core.specs.Arrivals.{rows_counted, with_row, link_judged_at}
 use Rattle.peer_core.specs.Parts.{parts_kept}
-use Rattle.peer_core.proofs.Admitted.{judged_is}
+use Rattle.spawn_track.proofs.Admitted.{judged_is}
 use Rattle.peer_core.proofs.Counted.{counted_is, same_peers}
 
 -- what a link counts judges as the rows do
-pub judged_from : (who : Who) (nodes : List Live) (links : List Link) (c : ℤ) (m : SpawnMsg) (o : Option Fault) → list_all (is_counted nodes) links ≡ true → has_int c (peers_of links) ≡ true
-    → judged_beside who.scene nodes (rows_counted c links) c m ≡ o → shown_judged who nodes c m ≡ o
-judged_from who nodes links c m o counted up h = sym (judged_is who nodes c m) ∙ ap (λ n. judged_beside who.scene nodes n c m) (sym (counted_is c nodes links counted up)) ∙ h
+pub judged_from : (who : Who) (nodes : List Live) (links told : List Link) (n : ℕ) (c : ℤ) (m : SpawnMsg) (o : Option Fault) → list_all (is_counted nodes) links ≡ true → has_int c (peers_of links) ≡ true
+    → told ≡ links → n ≡ rows_counted c told → judged_beside who.scene nodes n c m ≡ o → shown_judged who nodes c m ≡ o
+judged_from who nodes links told n c m o counted up same count h =
+    sym (judged_is who nodes c m)
+    ∙ ap (λ k. judged_beside who.scene nodes k c m) (sym (counted_is c nodes links counted up) ∙ sym (count ∙ ap (rows_counted c) same))
+    ∙ h
 
--- what the judging of a spawn tells
-abbrev pub IsJudged : Scene → List Live → List Link → ℤ → SpawnMsg → Result Making Fault → Type 0
-IsJudged s nodes links c m r = MatchResult r (λ x. (judged_beside s nodes (rows_counted c links) c m ≡ None) × IsMaking s m x) (λ f. judged_beside s nodes (rows_counted c links) c m ≡ Some f)
+-- what the judging of a spawn tells, beside as many rows of its sender
+abbrev pub IsJudged : Scene → List Live → ℕ → ℤ → SpawnMsg → Result Making Fault → Type 0
+IsJudged s nodes n c m r = MatchResult r (λ x. (judged_beside s nodes n c m ≡ None) × IsMaking s m x) (λ f. judged_beside s nodes n c m ≡ Some f)
 
-pub judged_none : (who : Who) (nodes : List Live) (links : List Link) (c : ℤ) (m : SpawnMsg) (told : List Link) (r : Result Making Fault) (x : Making) → list_all (is_counted nodes) links ≡ true → has_int c (peers_of links) ≡ true
-    → told ≡ links → IsJudged who.scene nodes told c m r → r ≡ Ok x → shown_judged who nodes c m ≡ None
-judged_none who nodes links c m told r x counted up same h e = judged_from who nodes links c m None counted up (subst (λ ls. IsJudged who.scene nodes ls c m (Ok x)) same (subst (IsJudged who.scene nodes told c m) e h)).0
+pub judged_none : (who : Who) (nodes : List Live) (links told : List Link) (n : ℕ) (c : ℤ) (m : SpawnMsg) (r : Result Making Fault) (x : Making) → list_all (is_counted nodes) links ≡ true → has_int c (peers_of links) ≡ true
+    → told ≡ links → n ≡ rows_counted c told → IsJudged who.scene nodes n c m r → r ≡ Ok x → shown_judged who nodes c m ≡ None
+judged_none who nodes links told n c m r x counted up same count h e = judged_from who nodes links told n c m None counted up same count (subst (IsJudged who.scene nodes n c m) e h).0
 
-pub judged_some : (who : Who) (nodes : List Live) (links : List Link) (c : ℤ) (m : SpawnMsg) (told : List Link) (r : Result Making Fault) (f : Fault) → list_all (is_counted nodes) links ≡ true → has_int c (peers_of links) ≡ true
-    → told ≡ links → IsJudged who.scene nodes told c m r → r ≡ Err f → shown_judged who nodes c m ≡ Some f
-judged_some who nodes links c m told r f counted up same h e = judged_from who nodes links c m (Some f) counted up (subst (λ ls. IsJudged who.scene nodes ls c m (Err f)) same (subst (IsJudged who.scene nodes told c m) e h))
+pub judged_some : (who : Who) (nodes : List Live) (links told : List Link) (n : ℕ) (c : ℤ) (m : SpawnMsg) (r : Result Making Fault) (f : Fault) → list_all (is_counted nodes) links ≡ true → has_int c (peers_of links) ≡ true
+    → told ≡ links → n ≡ rows_counted c told → IsJudged who.scene nodes n c m r → r ≡ Err f → shown_judged who nodes c m ≡ Some f
+judged_some who nodes links told n c m r f counted up same count h e = judged_from who nodes links told n c m (Some f) counted up same count (subst (IsJudged who.scene nodes n c m) e h)
 
 -- a spawn that is no fault
 pub spawn_done : (id : ℤ) (spent : Bool) (come : List ℤ) (links after : List Link) (t u : TreeOf) (next : ℕ) (rows : List SpawnedRow) (c : ℤ) (m : SpawnMsg) (o : Outcome)

@@ -13,7 +13,7 @@ use Rattle.peer_model.specs.View.{fits}
 use Rattle.peer_model.specs.Bytes.{PacketForm}
 use Rattle.headless_tree.specs.Nodes.{assigned}
 use Rattle.peer_laws.specs.Shown.{is_open}
-use Rattle.peer_core.specs.declared.rows.SpawnedRow.{SpawnedRow}
+use Rattle.spawn_track.specs.declared.rows.SpawnedRow.{SpawnedRow}
 use Rattle.peer_core.specs.Steps.{row_packet, sent_to}
 
 -- a row's packet for each of these peers, where the row is shown

@@ -1,26 +1,16 @@
 -- Why an event is refused or a fault, by what is kept.
-use Rattle.std.specs.Prelude.{ℕ, ◌+◌, ℤ, pos, Bool, not, ◌&&◌, ◌||◌, List, [], ◌∷◌, ◌++◌, filter, flat_map, find, length, Option, is_some, is_none, option_map, option_and_then, nat_lt, nat_le, int_lt, if◌then◌else◌}
+use Rattle.std.specs.Prelude.{ℕ, ℤ, pos, Bool, not, ◌&&◌, ◌||◌, List, [], ◌∷◌, length, Option, is_none, nat_le, int_lt, if◌then◌else◌}
 use Rattle.std.specs.Ordering.{int_eq}
-use Rattle.gd_variant.specs.Words.{text_eq, has_int, some_is, when, first_of}
+use Rattle.gd_variant.specs.Words.{has_int, when, first_of}
 use Rattle.gd_variant.specs.declared.value.Variant.{Variant}
-use Rattle.scene_model.specs.declared.scene.SpawnerDef.{SpawnerDef}
-use Rattle.scene_model.specs.declared.spawn.SpawnMsg.{SpawnMsg}
-use Rattle.scene_model.specs.declared.event.SpawnOp.{SpawnOp}
 use Rattle.scene_model.specs.declared.outcome.Refusal.{Refusal}
-use Rattle.scene_model.specs.declared.outcome.Refusal.TheVariants.{NoNode, NoSpawner, NotAuthority, NoScene, BadName, NameTaken, SpawnLimit, NodesFull, NetIdsFull, NoProp, ValueTooLong, NoPeer, BadPeer, PeersFull}
+use Rattle.scene_model.specs.declared.outcome.Refusal.TheVariants.{NoNode, NotAuthority, NoProp, ValueTooLong, NoPeer, BadPeer, PeersFull}
 use Rattle.scene_model.specs.declared.outcome.Fault.{Fault}
 use Rattle.scene_model.specs.declared.outcome.Fault.TheVariants as fault
-use Rattle.scene_model.specs.Paths.{is_name}
-use Rattle.scene_model.specs.Lookup.{spawner_at, fixed_node_at}
 use Rattle.peer_model.specs.Heard.{Who, is_server, server}
-use Rattle.peer_model.specs.Rows.{spawned_path, spawned_scene, syncs_at}
-use Rattle.peer_model.specs.Values.{scene_made, props_in}
-use Rattle.peer_model.specs.Updates.{Live, live_at, spawner_with, scene_name_of, shown_place, shown_path}
+use Rattle.peer_model.specs.Updates.{Live, live_at}
 use Rattle.peer_model.specs.View.{fits}
-use Rattle.peer_model.specs.Refusals.{most_rows, most_net_id, most_clients, owns, has_live_prop, may_make, setting_refusals, argument_fits}
-use Rattle.peer_model.specs.Faults.{auth_is, bad_id, known_ids, first_known, wrong_spawn}
-use Rattle.peer_laws.specs.Facts.{rows_under}
-use Rattle.peer_core.specs.declared.rows.SpawnedRow.{SpawnedRow}
+use Rattle.peer_model.specs.Refusals.{most_clients, owns, has_live_prop}
 
 -- a link of this peer, of one that was up before, or with a number that can't be
 abbrev pub is_bad_link : Who → List ℤ → ℤ → Bool
@@ -34,28 +24,6 @@ up_judged who come up b = first_of (when (is_bad_link who come b) BadPeer ∷ wh
 abbrev pub down_judged : List ℤ → ℤ → Option Refusal
 down_judged up b = when (not (has_int b up)) NoPeer
 
--- the rows of a spawner
-abbrev pub rows_of_spawner : List ℕ → List SpawnedRow → List SpawnedRow
-rows_of_spawner spawner rows = filter (λ (r : SpawnedRow). text_eq r.spawner spawner) rows
-
--- whether a spawner has as many rows as it may
-abbrev pub is_at_limit : List SpawnedRow → List ℕ → SpawnerDef → Bool
-is_at_limit rows spawner d = nat_lt 0 d.limit && nat_le d.limit (length (rows_of_spawner spawner rows))
-
--- why a spawn is refused
-abbrev pub spawn_judged : Who → List Live → List SpawnedRow → ℕ → SpawnOp → Option Refusal
-spawn_judged who nodes rows next o = first_of (
-    when (is_none (live_at nodes o.spawner)) NoNode
-    ∷ when (is_none (spawner_at who.scene o.spawner)) NoSpawner
-    ∷ when (not (owns who (live_at nodes o.spawner))) NotAuthority
-    ∷ when (not (some_is (may_make o) (spawner_at who.scene o.spawner))) NoScene
-    ∷ when (not (is_name o.name)) BadName
-    ∷ when (is_some (live_at nodes (spawned_path who o))) NameTaken
-    ∷ when (some_is (is_at_limit rows o.spawner) (spawner_at who.scene o.spawner)) SpawnLimit
-    ∷ when (nat_le most_rows (length rows)) NodesFull
-    ∷ when (nat_lt most_net_id (next + length (syncs_at who.scene (spawned_scene who o)))) NetIdsFull
-    ∷ flat_map (setting_refusals (props_in (scene_made who o))) o.sets ++ when (not (argument_fits o.arg)) ValueTooLong ∷ [])
-
 -- why an assignment is refused
 abbrev pub set_judged : Who → List Live → List ℕ → List ℕ → Variant → Option Refusal
 set_judged who nodes path prop value = first_of (
@@ -68,18 +36,3 @@ set_judged who nodes path prop value = first_of (
 -- why no packet is taken from a link
 abbrev pub link_judged : Who → List ℤ → ℤ → Option Fault
 link_judged who up from = when (not (has_int from up) || (not (is_server who) && not (int_eq from server))) (fault.UnknownPeer from)
-
--- why a received spawn is a fault
-abbrev pub shown_judged : Who → List Live → ℤ → SpawnMsg → Option Fault
-shown_judged who nodes c m = first_of (
-    when (is_none (fixed_node_at who.scene m.spawner)) (fault.NoName m.spawner)
-    ∷ when (is_none (spawner_with who.scene m.spawner)) fault.NoSpawner
-    ∷ when (not (auth_is c (fixed_node_at who.scene m.spawner))) fault.NotAuthority
-    ∷ when (is_none (option_and_then (λ (d : SpawnerDef). scene_name_of d m.scene) (spawner_with who.scene m.spawner))) fault.NoScene
-    ∷ option_map fault.IdRange (find bad_id (m.net ∷ m.syncs))
-    ∷ option_map fault.KnownNet (first_known (known_ids (rows_under c nodes)) (m.net ∷ m.syncs))
-    ∷ when (not (is_name m.name)) fault.BadName
-    ∷ when (is_some (live_at nodes (shown_path who.scene m))) fault.NameTaken
-    ∷ when (nat_le most_rows (length (rows_under c nodes))) fault.NodesFull
-    ∷ when (wrong_spawn (syncs_at who.scene (shown_place who.scene m)) m) fault.WrongValues
-    ∷ [])

@@ -1,10 +1,8 @@
 -- What a peer keeps.
 use Rattle.std.specs.Prelude.{ℕ, ℤ, Bool, List}
 use Rattle.peer_model.specs.Heard.{Who}
-use Rattle.peer_model.specs.Rows.{OwnRow}
 use Rattle.peer_model.specs.Updates.{Live}
-use Rattle.peer_model.specs.Changes.{scene_byte}
-use Rattle.peer_core.specs.declared.rows.SpawnedRow.{SpawnedRow}
+use Rattle.spawn_track.specs.declared.rows.SpawnedRow.{SpawnedRow}
 
 -- what contracts see of a peer: its number and scene, whether it is spent, the peers that ever came up, those that are up, its nodes, the next number, and its rows
 pub record Kept : Type 0 where
@@ -15,7 +13,3 @@ pub record Kept : Type 0 where
   pub nodes : List Live
   pub next : ℕ
   pub rows : List SpawnedRow
-
--- what is kept of an own row beside its node
-abbrev pub kept_row : Who → OwnRow → SpawnedRow
-kept_row who r = record { num = r.num; ids = r.ids; path = r.path; place = r.place; spawner = r.made_by.spawner; byte = scene_byte who r; name = r.made_by.name }

@@ -5,6 +5,5 @@ pub mod Stands
 pub mod Links
 pub mod Calls
 pub mod Rights
-pub mod Sites
 pub mod Parts
 pub mod Arrivals

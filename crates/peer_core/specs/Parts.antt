@@ -2,7 +2,7 @@
 use Rattle.std.specs.Prelude.{ℕ, ℤ, Bool, false, List}
 use Rattle.headless_tree.specs.Nodes.{TreeOf}
 use Rattle.peer_core.specs.declared.links.Link.{Link}
-use Rattle.peer_core.specs.declared.rows.SpawnedRow.{SpawnedRow}
+use Rattle.spawn_track.specs.declared.rows.SpawnedRow.{SpawnedRow}
 use Rattle.peer_core.specs.Kept.{Kept}
 use Rattle.peer_core.specs.Links.{peers_of}
 

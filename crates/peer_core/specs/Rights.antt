@@ -1,41 +1,21 @@
 -- What holds of all that a peer keeps, so that its packets can be written and its numbers are new.
-use Rattle.std.specs.Prelude.{◌≡◌, ℕ, ℤ, Bool, true, false, not, ◌&&◌, ◌||◌, List, ◌∷◌, length, Some, nat_eq, nat_lt}
+use Rattle.std.specs.Prelude.{◌≡◌, ℕ, ℤ, Bool, true, false, not, ◌||◌, List, length, nat_eq}
 use Rattle.std.specs.List.{list_all}
 use Rattle.std.specs.Ordering.{int_eq}
 use Rattle.gd_variant.specs.Words.{has_int}
 use Rattle.gd_variant.specs.Sound.{is_sound}
-use Rattle.gd_variant.specs.declared.value.Variant.{Variant}
-use Rattle.scene_model.specs.declared.scene.Scene.{Scene}
 use Rattle.scene_model.specs.declared.scene.Prop.{Prop}
 use Rattle.scene_model.specs.declared.event.Op.{Op}
 use Rattle.scene_model.specs.declared.event.Op.TheVariants.{Spawn, Set}
 use Rattle.scene_model.specs.declared.event.Event.{Event}
 use Rattle.scene_model.specs.declared.event.Event.TheVariants.{Op as Operation}
-use Rattle.scene_model.specs.Paths.{is_name}
 use Rattle.scene_model.specs.Valid.{IsValidScene}
-use Rattle.peer_model.specs.Rows.{syncs_at}
 use Rattle.peer_model.specs.Updates.{Live}
-use Rattle.peer_model.specs.View.{fits}
-use Rattle.headless_tree.specs.Nodes.{TreeOf, is_spawned, is_row_of}
+use Rattle.headless_tree.specs.Nodes.{TreeOf, is_spawned}
 use Rattle.peer_laws.specs.Facts.{rows_under}
+use Rattle.spawn_track.specs.Rights.{has_right_values, is_right_row, is_before}
 use Rattle.peer_core.specs.declared.links.Link.{Link}
-use Rattle.peer_core.specs.declared.rows.SpawnedRow.{SpawnedRow}
-
--- a value that a property may have: it is sound, and not too long
-abbrev pub is_right_value : Variant → Bool
-is_right_value v = is_sound v && fits v
-
--- properties with such values
-abbrev pub are_right : List Prop → Bool
-are_right props = list_all (λ (p : Prop). is_right_value p.value) props
-
--- a node with such values
-abbrev pub has_right_values : Live → Bool
-has_right_values n = are_right n.values
-
--- a row whose packet can be written: its name is one, it has an id for each synchronizer of its scene, its byte isn't a custom spawn's, and its scene is there
-abbrev pub is_right_row : Scene → SpawnedRow → Bool
-is_right_row s r = (is_name r.name && nat_eq (length r.ids) (length (syncs_at s (Some r.place)))) && (nat_lt r.byte 255 && nat_lt r.place (length s.scenes))
+use Rattle.spawn_track.specs.declared.rows.SpawnedRow.{SpawnedRow}
 
 -- a link counts the rows of its peer
 abbrev pub is_counted : List Live → Link → Bool
@@ -48,10 +28,6 @@ has_come come l = has_int l.peer come
 -- a spawned node of this peer, or of one that came up
 abbrev pub is_known : ℤ → List ℤ → Live → Bool
 is_known id come n = not (is_spawned n) || (int_eq n.auth id || has_int n.auth come)
-
--- a spawned node of this peer has lower numbers than the next one
-abbrev pub is_before : ℤ → ℕ → Live → Bool
-is_before id next n = not (is_row_of id n) || list_all (λ num. nat_lt num next) (n.num ∷ n.ids)
 
 -- all that is kept is right
 pub record AreRight (id : ℤ) (come : List ℤ) (links : List Link) (tree : TreeOf) (next : ℕ) (rows : List SpawnedRow) : Type 0 where

@@ -26,15 +26,16 @@ use Rattle.scene_model.specs.declared.outcome.Fault.TheVariants as fault
 use Rattle.scene_model.specs.Lookup.{fixed_path_id}
 use Rattle.packet_codec.specs.Packets.{read_packet}
 use Rattle.packet_codec.specs.Written.{written_packet}
-use Rattle.peer_model.specs.Heard.{Who}
-use Rattle.peer_model.specs.Rows.{OwnRow, syncs_at, spawned_path, spawned_scene, count_from}
+use Rattle.peer_model.specs.Rows.{syncs_at, spawned_scene}
 use Rattle.peer_model.specs.Updates.{Live, shown_node, all_spawn_props}
 use Rattle.peer_model.specs.Bytes.{PacketForm}
 use Rattle.headless_tree.specs.Nodes.{row_before, assigned, without_rows}
 use Rattle.peer_laws.specs.Shown.{is_open, values_in, spawned_live}
-use Rattle.peer_core.specs.declared.rows.SpawnedRow.{SpawnedRow}
-use Rattle.peer_core.specs.Kept.{Kept, kept_row}
-use Rattle.peer_core.specs.Judged.{up_judged, down_judged, spawn_judged, set_judged, link_judged, shown_judged}
+use Rattle.spawn_track.specs.declared.rows.SpawnedRow.{SpawnedRow}
+use Rattle.spawn_track.specs.Rows.{kept_row, row_of_spawn}
+use Rattle.peer_core.specs.Kept.{Kept}
+use Rattle.spawn_track.specs.Judged.{spawn_judged, shown_judged}
+use Rattle.peer_core.specs.Judged.{up_judged, down_judged, set_judged, link_judged}
 
 -- how the packets of this project are read and written
 abbrev pub packet_form : PacketForm
@@ -78,16 +79,6 @@ up_taken form k b None = record { outcome = done_with (shows_to form k b); kept 
 abbrev pub down_taken : Kept → ℤ → Option Refusal → Taken
 down_taken k b (Some r) = unchanged k (Refused r)
 down_taken k b None = record { outcome = done_with []; kept = record k { up = filter (λ c. not (int_eq c b)) k.up; nodes = without_rows b k.nodes } }
-
--- the row that a spawn makes
-abbrev pub row_of_spawn : Who → ℕ → SpawnOp → OwnRow
-row_of_spawn who next o = record {
-  num = next;
-  ids = count_from (next + 1) (syncs_at who.scene (spawned_scene who o));
-  path = spawned_path who o;
-  place = or_else (spawned_scene who o) 0;
-  made_by = o;
-}
 
 -- what is kept after a spawn
 abbrev pub with_spawn : Kept → SpawnOp → Kept

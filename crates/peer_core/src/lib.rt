@@ -5,20 +5,12 @@
 
 mod effects;
 mod links;
-mod lookup;
 mod making;
 mod peer;
-mod placing;
 mod receiving;
 mod reporting;
-mod rows;
 mod sending;
 mod setting;
-mod shown;
-mod spawning;
 mod taking;
-mod texts;
-mod values;
 
 pub use peer::{Peer, Stop};
-pub use rows::SpawnedRow;

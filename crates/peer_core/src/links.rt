@@ -1,5 +1,5 @@
 //! The links of a peer: who is up, and how many rows each of them has here.
-ghost use Rattle.std.specs.Prelude.{◌≡◌, ◌≤◌, ◌<◌, ◌++◌, [], ◌∷◌, ℤ, not, map, filter, length, OnOk, true, false, int_lt, nat_le};
+ghost use Rattle.std.specs.Prelude.{◌≡◌, ◌≤◌, ◌<◌, ◌++◌, [], ◌∷◌, filter, length, OnOk, true, false, int_lt, nat_le};
 ghost use Rattle.std.specs.List.{list_any, prefix_len};
 ghost use Rattle.std.specs.Ordering.{int_eq};
 ghost use Rattle.gd_variant.specs.Words.{has_int, put_by};

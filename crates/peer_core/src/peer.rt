@@ -1,5 +1,5 @@
 //! A peer, which takes one event after the other.
-ghost use Rattle.std.specs.Prelude.{◌≡◌, ◌∷◌, [], List, ℕ, ℤ, pos, true, false, ◌↔◌, ◌≤ℤ◌, IfOk, OnOk, OnErr, Err, map};
+ghost use Rattle.std.specs.Prelude.{◌≡◌, ◌∷◌, [], List, ℤ, pos, true, false, ◌↔◌, ◌≤ℤ◌, IfOk, OnOk, OnErr, Err, map};
 ghost use Rattle.std.specs.List.{list_all};
 ghost use Rattle.scene_model.specs.declared.event.Event.{Event as EventOf};
 ghost use Rattle.scene_model.specs.declared.event.Event.TheVariants.{Op as operation};
@@ -9,7 +9,8 @@ ghost use Rattle.peer_model.specs.Bytes.{accepted_events};
 ghost use Rattle.headless_tree.specs.Nodes.{fixed_nodes};
 ghost use Rattle.peer_laws.specs.Built.{is_built_op};
 ghost use Rattle.peer_core.specs.declared.peer.Stop.TheVariants as stop;
-ghost use Rattle.peer_core.specs.Rights.{AreRight, has_right_values, is_before, is_sound_op, is_sound_event};
+ghost use Rattle.spawn_track.specs.Rights.{has_right_values, is_before};
+ghost use Rattle.peer_core.specs.Rights.{AreRight, is_sound_op, is_sound_event};
 ghost use Rattle.peer_core.specs.Parts.{kept_of};
 ghost use Rattle.peer_core.specs.Stands.{StandsFor, is_built_event, is_answered, built_answer};
 ghost use Rattle.peer_core.specs.Steps.{packet_form, taken, is_done};
@@ -17,12 +18,12 @@ ghost use Rattle.peer_core.specs.Steps.{packet_form, taken, is_done};
 use crate::links::Link;
 use crate::receiving::take_packet;
 use crate::reporting::report_with;
-use crate::rows::SpawnedRow;
 use crate::taking::{take_down, take_set, take_spawn, take_up};
 use gd_variant::OutOfMemory;
 use headless_tree::Tree;
 use indexmap::IndexSet;
 use scene_model::{Event, Op, Outcome, Refusal, Report, Scene};
+use spawn_track::SpawnedRow;
 use std::alloc::Global;
 use std::marker::Model;
 

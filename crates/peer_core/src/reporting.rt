@@ -1,5 +1,5 @@
 //! What a peer holds, as it is printed.
-ghost use Rattle.std.specs.Prelude.{◌≡◌, ◌++◌, ◌∷◌, [], map, IfOk, OnOk};
+ghost use Rattle.std.specs.Prelude.{◌≡◌, map, IfOk};
 ghost use Rattle.peer_model.specs.View.{row_of};
 ghost use Rattle.peer_core.specs.Links.{peers_of as peers_in};
 

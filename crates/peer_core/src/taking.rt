@@ -1,30 +1,29 @@
 //! Events of links, and operations: what each does, or why it is refused.
-ghost use Rattle.std.specs.Prelude.{◌≡◌, ◌<◌, ◌+◌, [], true, is_some, ℕ, ℤ, List, IfOk, OnOk, IfSome, length};
+ghost use Rattle.std.specs.Prelude.{◌≡◌, ◌<◌, true, is_some, ℕ, ℤ, List, IfOk, OnOk};
 ghost use Rattle.std.specs.List.{list_all};
 ghost use Rattle.gd_variant.specs.Sound.{is_sound};
-ghost use Rattle.scene_model.specs.declared.event.Event.TheVariants.{Op as operation, Up as came_up, Down as went_down};
+ghost use Rattle.scene_model.specs.declared.event.Event.TheVariants.{Up as came_up, Down as went_down};
 ghost use Rattle.scene_model.specs.declared.event.Op.TheVariants.{Spawn as spawns, Set as sets};
 ghost use Rattle.scene_model.specs.declared.scene.Prop.{Prop as PropOf};
 ghost use Rattle.scene_model.specs.Valid.{IsValidScene};
 ghost use Rattle.headless_tree.specs.Nodes.{without_rows};
-ghost use Rattle.peer_laws.specs.Built.{is_built_op};
-ghost use Rattle.peer_core.specs.declared.rows.SpawnedRow.{SpawnedRow as RowOf};
+ghost use Rattle.spawn_track.specs.declared.rows.SpawnedRow.{SpawnedRow as RowOf};
 ghost use Rattle.peer_core.specs.declared.links.Link.{Link as LinkOf};
-ghost use Rattle.peer_core.specs.Rights.{AreRight, has_right_values, is_right_row, is_before, is_sound_op};
+ghost use Rattle.spawn_track.specs.Rights.{has_right_values, is_right_row, is_before};
+ghost use Rattle.peer_core.specs.Rights.{AreRight};
 ghost use Rattle.peer_core.specs.Parts.{kept_of};
 ghost use Rattle.peer_core.specs.Steps.{packet_form, taken, op_taken};
 
 use crate::effects::done;
 use crate::links::{Link, drop_link, judge_down, judge_up, note_come, put_link};
 use crate::making::make_spawn;
-use crate::rows::SpawnedRow;
 use crate::sending::show_all;
 use crate::setting::set;
-use crate::spawning::{judge_spawn, site_of};
 use gd_variant::{OutOfMemory, Text, Variant};
 use headless_tree::Tree;
 use indexmap::IndexSet;
 use scene_model::{Op, Outcome, Refusal, SpawnOp};
+use spawn_track::{SpawnedRow, judge_spawn, site_of};
 use sqlite_items::Items;
 use std::alloc::Global;
 

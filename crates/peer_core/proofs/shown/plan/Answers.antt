@@ -1,6 +1,0 @@
-use Rattle.std.proofs.Common.{sym, ◌∙◌}
-use Rattle.peer_core.proofs.Planned.{place_is_there}
-use Rattle.peer_core.proofs.shown.plan.Goals as goal
-
-pub unreachable-requires : goal.unreachable-requires
-unreachable-requires c = place_is_there c.args.scene.now c.requires.valid c.args.spawn.now.spawner c.args.spawn.now.scene c.args.def.now c.args.name.now c.requires.spawner c.requires.named (sym c.scene_place.ensures.place ∙ c.in-None.is)

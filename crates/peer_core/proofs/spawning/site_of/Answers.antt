@@ -1,6 +1,0 @@
-use Rattle.std.specs.Option.{option_copied}
-use Rattle.peer_core.proofs.SpawnParts.{few_scenes}
-use Rattle.peer_core.proofs.spawning.site_of.Goals as goal
-
-pub site_with-requires-clause-few : goal.site_with-requires-clause-few
-site_with-requires-clause-few c = few_scenes c.args.tree.now.scene c.requires c.args.op.now.spawner (option_copied c.spawner_at-def.result) c.spawner_at-def.ensures

@@ -1,0 +1,14 @@
+pub mod Found
+pub mod Assigned
+pub mod PlacesOf
+pub mod Numbering
+pub mod Settled
+pub mod SpawnParts
+pub mod SpawnMade
+pub mod SpawnCalls
+pub mod Knowns
+pub mod Planned
+pub mod Assigning
+pub mod Admitted
+pub mod Putting
+pub mod Parents

@@ -1,0 +1,94 @@
+//! What stands in a valid scene, and where.
+ghost use Rattle.std.specs.Prelude.{◌≡◌, ◌<◌, ◌+◌, Some, IfSome, length};
+ghost use Rattle.std.specs.List.{list_any};
+ghost use Rattle.std.specs.Option.{option_copied};
+ghost use Rattle.gd_variant.specs.Words.{or_else};
+ghost use Rattle.scene_model.specs.declared.scene.SyncDef.{SyncDef as SyncDefOf};
+ghost use Rattle.scene_model.specs.Lookup.{fixed_node as fixed_node_of, fixed_path_id, scene_place as scene_place_of, spawner_at as spawner_at_of, spawner_of as spawner_in};
+ghost use Rattle.scene_model.specs.Valid.{IsValidScene};
+ghost use Rattle.peer_model.specs.Rows.{syncs_at};
+ghost use Rattle.peer_laws.specs.Shown.{is_open as is_open_of};
+
+use gd_variant::Text;
+use headless_tree::Tree;
+use scene_model::{Node, Role, Scene, SpawnerDef, SyncDef};
+use sqlite_items::at as item_at;
+
+/// The path id of a fixed node, its place from 1, or 0 where there is none at the path.
+pub fn path_id(tree: &Tree, path: &Text) -> u32
+    requires { IsValidScene tree.now.scene }
+    ensures { result ≡ or_else (fixed_path_id tree.now.scene path.now) 0 }
+{
+    match tree.fixed_place(path.as_str()) {
+        Some(place) => place as u32 + 1,
+        None => 0,
+    }
+}
+
+fn fixed_node<'a>(tree: &'a Tree, path: &Text) -> Option<&'a Node>
+    ensures { option_copied result ≡ fixed_node_of tree.now.scene path.now }
+{
+    match tree.fixed_place(path.as_str()) {
+        Some(place) => item_at(tree.scene().nodes.as_slice(), place),
+        None => None,
+    }
+}
+
+/// A node's spawner, where it is one.
+pub fn spawner_of(node: &Node) -> Option<&SpawnerDef>
+    ensures { option_copied result ≡ spawner_in node.now }
+{
+    match &node.role {
+        Role::Spawner(def) => Some(def),
+        Role::Sync(_) => None,
+        Role::Plain => None,
+    }
+}
+
+/// The spawner at a path.
+pub fn spawner_at<'a>(tree: &'a Tree, path: &Text) -> Option<&'a SpawnerDef>
+    ensures { option_copied result ≡ spawner_at_of tree.now.scene path.now }
+{
+    match fixed_node(tree, path) {
+        Some(node) => spawner_of(node),
+        None => None,
+    }
+}
+
+/// The place of a scene by its name.
+pub fn scene_place(tree: &Tree, name: &Text) -> Option<u32>
+    requires { IsValidScene tree.now.scene }
+    ensures place { result ≡ scene_place_of tree.now.scene name.now }
+    ensures within { IfSome result (λ i. i < length tree.now.scene.scenes) }
+{
+    match tree.scene_place(name.as_str()) {
+        Some(place) => Some(place as u32),
+        None => None,
+    }
+}
+
+/// The synchronizers of the scene at a place.
+pub fn syncs_of(scene: &Scene, place: u32) -> &[SyncDef]
+    ensures { result.now ≡ syncs_at scene.now (Some place) }
+{
+    match item_at(scene.scenes.as_slice(), place as usize) {
+        Some(def) => def.syncs.as_slice(),
+        None => &[],
+    }
+}
+
+fn has_public(defs: &[SyncDef]) -> bool
+    ensures { result ≡ list_any (λ (d : SyncDefOf). d.public) defs.now }
+{
+    defs.iter().any(|def| def.public)
+}
+
+/// Whether a row of the scene at a place is shown to others.
+pub fn is_open(scene: &Scene, place: u32) -> bool
+    ensures { result ≡ is_open_of scene.now place }
+{
+    match syncs_of(scene, place) {
+        [] => true,
+        defs => has_public(defs),
+    }
+}

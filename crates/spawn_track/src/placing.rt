@@ -1,0 +1,53 @@
+//! Nodes and values are put into the tree.
+ghost use Rattle.std.specs.Prelude.{◌≡◌, ◌<◌, true, None, is_some, OnOk, OnErr, length};
+ghost use Rattle.gd_variant.specs.Words.{put_by};
+ghost use Rattle.scene_model.specs.Lookup.{fixed_node};
+ghost use Rattle.scene_model.specs.Paths.{joined};
+ghost use Rattle.peer_model.specs.Updates.{live_at};
+ghost use Rattle.peer_model.specs.View.{fits as fits_of};
+ghost use Rattle.headless_tree.specs.Nodes.{row_before, spawned_node, assigned};
+ghost use Rattle.headless_tree.specs.Numbers.{are_new};
+
+use gd_variant::{IdList, OutOfMemory, Text, Variant};
+use headless_tree::{Tree, TreeNo};
+use std::alloc::Global;
+
+/// Adds a node below a fixed one with the defaults of the scene at a place.
+pub fn put_node(
+    alloc: Global,
+    tree: &mut Tree,
+    under: &Text,
+    name: &Text,
+    auth: &i32,
+    num: u32,
+    ids: &IdList,
+    place: u32,
+) -> Result<(), OutOfMemory>
+    requires scene { place < length tree.old.scene.scenes }
+    requires numbers { are_new auth.now num ids.now tree.old.nodes ≡ true }
+    requires under { is_some (fixed_node tree.old.scene under.now) ≡ true }
+    requires free { live_at tree.old.nodes (joined under.now name.now) ≡ None }
+    ensures ok { OnOk result (tree.new ≡ record tree.old { nodes = put_by row_before (spawned_node tree.old.scene (joined under.now name.now) auth.now num ids.now place) tree.old.nodes }) }
+    ensures err { OnErr result (tree.new ≡ tree.old) }
+{
+    let auth = *auth;
+    match tree.insert(alloc, under.as_str(), name.as_str(), auth, num, ids, place) {
+        Ok(()) => Ok(()),
+        Err(TreeNo::OutOfMemory) => Err(OutOfMemory),
+        Err(TreeNo::NoNode) => unreachable!(),
+        Err(TreeNo::NameTaken) => unreachable!(),
+        Err(TreeNo::NoProp) => unreachable!(),
+        Err(TreeNo::ValueTooLong) => unreachable!(),
+    }
+}
+
+/// Assigns to a property of the node at a path, where there are such.
+pub fn put_value(tree: &mut Tree, path: &Text, prop: &Text, value: Variant)
+    requires { fits_of value ≡ true }
+    ensures { tree.new ≡ record tree.old { nodes = assigned path.now prop.now value tree.old.nodes } }
+{
+    match tree.assign(path.as_str(), prop.as_str(), value) {
+        Ok(()) => {}
+        Err(_) => {}
+    }
+}

@@ -1,0 +1,119 @@
+//! Received spawns: why one is a fault, and the node that it puts into the tree.
+ghost use Rattle.std.specs.Prelude.{◌≡◌, ◌<◌, true, Some, None, Result, IfOk, OnOk, OnErr, MatchResult, length, zip};
+ghost use Rattle.std.specs.List.{list_all};
+ghost use Rattle.gd_variant.specs.Words.{put_by};
+ghost use Rattle.scene_model.specs.Valid.{IsValidScene};
+ghost use Rattle.peer_model.specs.Updates.{shown_node, shown_place, shown_path};
+ghost use Rattle.peer_model.specs.View.{fits as fits_of};
+ghost use Rattle.peer_model.specs.Rows.{syncs_at};
+ghost use Rattle.peer_model.specs.Refusals.{argument_fits};
+ghost use Rattle.headless_tree.specs.Nodes.{row_before};
+ghost use Rattle.spawn_track.specs.Judged.{shown_judged};
+ghost use Rattle.spawn_track.specs.Arrivals.{IsMaking, judged_beside, place_judged, assigned_all, argument_assigned};
+
+use crate::lookup::syncs_of;
+use crate::placing::{put_node, put_value};
+use crate::shown::{Making, judge_ids, judge_place, meaning, plan};
+use gd_variant::{OutOfMemory, Text, ValueList, Variant};
+use headless_tree::Tree;
+use scene_model::{Fault, SpawnMsg};
+use std::alloc::Global;
+
+/// What a spawn from a peer makes, beside as many rows of that peer, or why it is a fault.
+pub fn judge_shown(
+    alloc: Global,
+    tree: &Tree,
+    count: u32,
+    from: &i32,
+    spawn: &SpawnMsg,
+) -> Result<Result<Making, Fault>, OutOfMemory>
+    requires valid { IsValidScene tree.now.scene }
+    ensures { IfOk result (λ r. MatchResult r (λ x. (judged_beside tree.now.scene tree.now.nodes count from.now spawn.now ≡ None) × IsMaking tree.now.scene spawn.now x) (λ f. judged_beside tree.now.scene tree.now.nodes count from.now spawn.now ≡ Some f)) }
+{
+    match meaning(tree.scene(), from, spawn) {
+        Ok((def, name)) => {
+            if let Some(fault) = judge_ids(alloc, tree, from, spawn)? {
+                return Ok(Err(fault));
+            }
+            let making = plan(alloc, tree, def, name, spawn)?;
+            match judge_making(tree, count, &making, spawn) {
+                Some(fault) => Ok(Err(fault)),
+                None => Ok(Ok(making)),
+            }
+        }
+        Err(fault) => Ok(Err(fault)),
+    }
+}
+
+fn judge_making(tree: &Tree, count: u32, making: &Making, spawn: &SpawnMsg) -> Option<Fault>
+    requires { IsMaking tree.now.scene spawn.now making.now }
+    ensures { result ≡ place_judged tree.now.nodes count (shown_path tree.now.scene spawn.now) (syncs_at tree.now.scene (shown_place tree.now.scene spawn.now)) spawn.now }
+{
+    let defs = syncs_of(tree.scene(), making.place);
+    judge_place(tree, count, &making.path, defs, &making.props, spawn)
+}
+
+/// Assigns an argument to the property that takes it.
+fn put_argument(tree: &mut Tree, path: &Text, prop: &Option<Text>, arg: Option<Variant>)
+    requires { argument_fits arg ≡ true }
+    ensures { tree.new ≡ record tree.old { nodes = argument_assigned path.now prop.now arg tree.old.nodes } }
+{
+    match arg {
+        Some(value) => match prop {
+            Some(prop) => put_value(tree, path, prop, value),
+            None => {}
+        },
+        None => {}
+    }
+}
+
+/// Assigns values to properties in order.
+fn put_values(tree: &mut Tree, path: &Text, props: &[Text], values: ValueList)
+    requires many { length props.now ≡ length values }
+    requires short { list_all fits_of values ≡ true }
+    ensures { tree.new ≡ record tree.old { nodes = assigned_all path.now (zip props.now values) tree.old.nodes } }
+{
+    let mut values = values;
+    for prop in props {
+        let value = values.remove(0);
+        put_value(tree, path, prop, value);
+    }
+}
+
+/// Puts the node of a spawn that is no fault among the rows of its sender.
+pub fn put_shown(
+    alloc: Global,
+    tree: &mut Tree,
+    from: &i32,
+    spawn: SpawnMsg,
+    making: &Making,
+) -> Result<(), OutOfMemory>
+    requires valid { IsValidScene tree.old.scene }
+    requires making { IsMaking tree.old.scene spawn making.now }
+    requires judged { shown_judged (record { id = from.now; scene = tree.old.scene }) tree.old.nodes from.now spawn ≡ None }
+    ensures ok { OnOk result (tree.new ≡ record tree.old { nodes = put_by row_before (shown_node tree.old.scene from.now spawn) tree.old.nodes }) }
+    ensures err { OnErr result (tree.new ≡ tree.old) }
+{
+    put_node(
+        alloc,
+        tree,
+        &making.under,
+        &spawn.name,
+        from,
+        spawn.net,
+        &spawn.syncs,
+        making.place,
+    )?;
+    let SpawnMsg {
+        scene: _,
+        spawner: _,
+        net: _,
+        syncs: _,
+        name: _,
+        arg,
+        values,
+    } = spawn;
+    put_argument(tree, &making.path, &making.argument, arg);
+    put_values(tree, &making.path, making.props.as_slice(), values);
+    Ok(())
+}
