@@ -1,5 +1,5 @@
 -- From what the code of a world's calls says to the laws of what is made.
-use Rattle.std.proofs.Common.{◌≡◌, ℤ, Bool, true, false, List, refl, sym, ap, ◌∙◌, Option, Some, None, Result, Ok, Err}
+use Rattle.std.proofs.Common.{◌≡◌, ℤ, Bool, true, false, List, ◌∷◌, [], refl, sym, ap, ◌∙◌, Option, Some, None, Result, Ok, Err}
 use Rattle.std.specs.Prelude.{IfOk, slice_get, nat_le, option_map, if◌then◌else◌, ◌↔◌, not, ◌&&◌, ◌||◌, length, ℕ}
 use Rattle.std.specs.Ordering.{int_eq}
 use Rattle.scene_model.specs.declared.event.Event.{Event}
@@ -55,13 +55,13 @@ op_scene v p op = by_server (int_eq p server)
     by_server true = server_scene v (event.Op op)
     by_server false = does_scene v op (place_of p)
 
-down_scene : (v : Parts) (i : ℕ) (c : Client) (o : Option Out) → scene_of (deliver_down v i c o).parts ≡ scene_of v
-down_scene v i c None = refl
-down_scene v i c (Some x) = refl
+down_scene : (v : Parts) (i : ℕ) (c : Client) (xs : List Out) → scene_of (deliver_down v i c xs).parts ≡ scene_of v
+down_scene v i c [] = refl
+down_scene v i c (x ∷ xs) = refl
 
-up_scene : (v : Parts) (i : ℕ) (c : Client) (o : Option Out) → scene_of (deliver_up v i c o).parts ≡ scene_of v
-up_scene v i c None = refl
-up_scene v i c (Some x) = ap (λ (w : Who). w.scene) (same_who packet_form v.server (event.Received (number_of i) x.class x.bytes))
+up_scene : (v : Parts) (i : ℕ) (c : Client) (xs : List Out) → scene_of (deliver_up v i c xs).parts ≡ scene_of v
+up_scene v i c [] = refl
+up_scene v i c (x ∷ xs) = ap (λ (w : Who). w.scene) (same_who packet_form v.server (event.Received (number_of i) x.class x.bytes))
 
 delivers_scene : (v : Parts) (is_down : Bool) (o : Option ℕ) → scene_of (delivers_at v is_down o).parts ≡ scene_of v
 delivers_scene v is_down None = refl
@@ -69,8 +69,8 @@ delivers_scene v is_down (Some i) = by_client is_down (slice_get v.clients i)
   where
     by_client : (d : Bool) (o : Option Client) → scene_of (delivers_of v d i o).parts ≡ scene_of v
     by_client d None = refl
-    by_client true (Some c) = down_scene v i c (slice_get c.down.sent c.down.delivered)
-    by_client false (Some c) = up_scene v i c (slice_get c.up.sent c.up.delivered)
+    by_client true (Some c) = down_scene v i c c.down
+    by_client false (Some c) = up_scene v i c c.up
 
 rel_scene : (v : Parts) (a b : ℤ) → scene_of (rel_made v a b).parts ≡ scene_of v
 rel_scene v a b = by_rows (not (has_peer v a && has_peer v b)) (int_eq a b || (not (int_eq a server) && not (int_eq b server))) (int_eq a server)

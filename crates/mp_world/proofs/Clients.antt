@@ -20,11 +20,12 @@ use Rattle.peer_core.specs.Stands.{StandsFor}
 use Rattle.peer_core.specs.Steps.{Taken}
 use Rattle.world_model.specs.World.{World, Way, way_with, packets_in, peer_of, fed, answer_at}
 use Rattle.world_model.specs.Replicas.{accepted_at}
-use Rattle.mp_world.specs.Steps.{Parts, Client, number_of, empty_way, server_with, client_with}
-use Rattle.mp_world.specs.Stands.{AllReadable, IsLink, ClientIs, IsClient, IsNew, IsYetToCome, HasParts, numbers_to}
+use Rattle.mp_world.specs.Steps.{Parts, Client, number_of, empty_way, waiting_with, server_with, client_with}
+use Rattle.mp_world.specs.Stands.{AllReadable, IsLink, waiting, ClientIs, IsClient, IsNew, IsYetToCome, HasParts, numbers_to}
 use Rattle.mp_world.proofs.Places.{each_set, each_sent, length-set, length-packets, with_sent, not_server, server_not, numbers_apart}
 use Rattle.mp_world.proofs.Peers.{IsStep}
 use Rattle.mp_world.proofs.Links.{link_sends, link_stays}
+use Rattle.mp_world.proofs.Waiting.{waiting_more}
 
 -- what is kept of a peer stands for accepted events, for the peer's number
 pub accepted_all : (form : PacketForm) (who : Who) (k : Kept) (es : List Event) → k.who ≡ who → StandsFor form k es → AllAccepted who (accepted_events form who es)
@@ -51,7 +52,7 @@ pub client_of_server : (form : PacketForm) (s : Scene) (gs : List Heard) (es : L
 client_of_server form s gs es down up id c e packets all known are read same h = record {
   who = h.who;
   stands = h.stands;
-  down_is = ap (λ y. way_with y packets id) h.down_is;
+  down_is = ap (λ xs. waiting_with xs packets id) h.down_is ∙ sym (waiting_more form s server id gs (accepted_events form (peer_of s id) es) down packets id h.link_down);
   up_is = h.up_is;
   known = known;
   knows = h.knows;
@@ -78,13 +79,13 @@ pub client_of_client : (form : PacketForm) (s : Scene) (gs : List Heard) (es : L
     → AllAccepted (peer_of s id) (heard_of form e ∷ accepted_events form (peer_of s id) es) → IsStep form (peer_of s id) es e t → is_up (heard_of form e ∷ accepted_events form (peer_of s id) es) server ≡ true
     → AllReadable form (adds (peer_of s id) (heard_of form e) (accepted_events form (peer_of s id) es) server)
     → IsLink form s server id gs (heard_of form e ∷ accepted_events form (peer_of s id) es) down
-    → is_up gs id ≡ true → c.down ≡ down → c.up ≡ up → IsLink form s id server (accepted_events form (peer_of s id) es) gs up
-    → ClientIs form s gs (e ∷ es) down (way_with up (packets_in t.outcome) server) id (record c { kept = t.kept; up = way_with c.up (packets_in t.outcome) server })
+    → is_up gs id ≡ true → c.down ≡ waiting down → c.up ≡ waiting up → IsLink form s id server (accepted_events form (peer_of s id) es) gs up
+    → ClientIs form s gs (e ∷ es) down (way_with up (packets_in t.outcome) server) id (record c { kept = t.kept; up = waiting_with c.up (packets_in t.outcome) server })
 client_of_client form s gs es down up id c e t all step knows read link_down known down_is up_is link_up = record {
   who = step.who_is;
   stands = step.stands;
   down_is = down_is;
-  up_is = ap (λ y. way_with y (packets_in t.outcome) server) up_is;
+  up_is = ap (λ xs. waiting_with xs (packets_in t.outcome) server) up_is ∙ sym (waiting_more form s id server (accepted_events form (peer_of s id) es) gs up (packets_in t.outcome) server link_up);
   known = known;
   knows = ap (λ hs. is_up hs server) step.more ∙ knows;
   link_down = subst (λ hs. IsLink form s server id gs hs down) (sym step.more) link_down;
@@ -132,12 +133,12 @@ server_after form s v w e t live step is few numbers clients new =
 pub client_after : (form : PacketForm) (s : Scene) (v : Parts) (w : World) (i : ℕ) (c : Client) (e : Event) (t : Taken) → v.spent ≡ false → v.server.who ≡ peer_of s server → StandsFor form v.server (w.events server)
     → length (peers_up (accepted_at form s w server)) ≤ length v.clients → w.clients ≡ numbers_to (length v.clients) → t.outcome ≡ answer_at form s w (number_of i) e
     → ((j : ℕ) (d : Client) → slice_get v.clients j ≡ Some d → nat_eq j i ≡ false → IsClient form s w (number_of j) d)
-    → ClientIs form s (accepted_at form s w server) (e ∷ w.events (number_of i)) (w.way server (number_of i)) (way_with (w.way (number_of i) server) (packets_in t.outcome) server) (number_of i) (record c { kept = t.kept; up = way_with c.up (packets_in t.outcome) server })
+    → ClientIs form s (accepted_at form s w server) (e ∷ w.events (number_of i)) (w.way server (number_of i)) (way_with (w.way (number_of i) server) (packets_in t.outcome) server) (number_of i) (record c { kept = t.kept; up = waiting_with c.up (packets_in t.outcome) server })
     → ((j : ℕ) → length v.clients ≤ j → IsYetToCome form s w (number_of j)) → ((j : ℕ) → length v.clients ≤ j → nat_eq j i ≡ false)
     → HasParts form s (client_with v i c t).parts (fed form s w (number_of i) e)
 client_after form s v w i c e t live who stands few numbers is others this new apart =
     let x = fed form s w (number_of i) e in
-    let d : Client = record c { kept = t.kept; up = way_with c.up (packets_in t.outcome) server } in
+    let d : Client = record c { kept = t.kept; up = waiting_with c.up (packets_in t.outcome) server } in
     let same = length-set v.clients i d in
     record {
       live = live;

@@ -22,11 +22,12 @@ use Rattle.peer_laws.proofs.Tests.{not_false, or_true}
 use Rattle.peer_core.specs.Steps.{Taken, packet_form, taken}
 use Rattle.world_model.specs.World.{World, way_with, packets_in, peer_of, is_in, next_of, with_delivered, delivered_next, fed, answer_at, peer_answer, refused_by, refused_or, accepted_answer, delivery_answer}
 use Rattle.world_model.specs.Replicas.{accepted_at}
-use Rattle.mp_world.specs.Steps.{Parts, Client, number_of, place_of, client_at, has_peer, unchanged, one_more, with_client, client_made, server_made, deliver_down, deliver_up, delivers_of, delivers_at, rel_made}
-use Rattle.mp_world.specs.Stands.{HasParts, ClientIs, IsClient, IsLink, numbers_to}
+use Rattle.mp_world.specs.Steps.{Parts, Client, number_of, place_of, client_at, has_peer, unchanged, one_more, waiting_with, with_client, client_made, server_made, deliver_down, deliver_up, delivers_of, delivers_at, rel_made}
+use Rattle.mp_world.specs.Stands.{HasParts, ClientIs, IsClient, IsLink, numbers_to, waiting}
 use Rattle.mp_world.proofs.Places.{place_is, there_is, each_set, length-set, with_sent, not_server, server_not, numbers_apart}
 use Rattle.mp_world.proofs.Peers.{IsStep, answered}
 use Rattle.mp_world.proofs.Links.{link_arrives, link_sends}
+use Rattle.mp_world.proofs.Waiting.{next_waits, rest_waits, none_waits, waiting_more}
 use Rattle.mp_world.proofs.Clients.{accepted_all, client_by, new_by, client_of_server, new_of_server, client_of_client, server_after, client_after}
 use Rattle.mp_world.proofs.Operations.{RightAt, refused_right, answer_of, reads_as, client_in, place_apart}
 use Rattle.mp_world.proofs.Arrivals.{IsNext, next_is, arrives, arrival_answered, arrival_brings, arrival_of_others, arrival_up, arrival_peers, arrival_no_news}
@@ -76,9 +77,9 @@ at_client s w id c h = accepted_all packet_form (peer_of s id) c.kept (w.events 
 down_link : (i : ℕ) → is_no_link server (number_of i) ≡ false
 down_link i = ap (λ b. b || (false && not (int_eq (number_of i) server))) (server_not i)
 
-pub down_right : (s : Scene) (v : Parts) (w : World) (i : ℕ) (c : Client) (x : Out) → HasParts packet_form s v w → slice_get v.clients i ≡ Some c → slice_get c.down.sent c.down.delivered ≡ Some x
-    → RightAt s w (Rel server (number_of i)) (client_made v i (record c { down = one_more c.down }) (event.Received server x.class x.bytes))
-down_right s v w i c x h at waits = record {
+pub down_right : (s : Scene) (v : Parts) (w : World) (i : ℕ) (c : Client) (x : Out) (xs : List Out) → HasParts packet_form s v w → slice_get v.clients i ≡ Some c → c.down ≡ x ∷ xs
+    → RightAt s w (Rel server (number_of i)) (client_made v i (record c { down = xs }) (event.Received server x.class x.bytes))
+down_right s v w i c x xs h at waits = record {
   answers =
       ap (peer_answer id) said ∙ ap (delivery_answer packet_form s w server id) (sym next)
       ∙ ap (λ o. refused_or o (accepted_answer packet_form s w (Rel server id))) (sym (waits_right w server id x (client_in s v w i c h at) (down_link i) next));
@@ -92,7 +93,7 @@ down_right s v w i c x h at waits = record {
     e = event.Received server x.class x.bytes
 
     d : Client
-    d = record c { down = one_more c.down }
+    d = record c { down = xs }
 
     t : Taken
     t = taken packet_form c.kept e
@@ -103,8 +104,11 @@ down_right s v w i c x h at waits = record {
     ci : IsClient packet_form s w id c
     ci = h.clients i c at
 
+    here : waiting (w.way server id) ≡ x ∷ xs
+    here = sym ci.down_is ∙ waits
+
     next : next_of (w.way server id) ≡ Some x
-    next = ap next_of (sym ci.down_is) ∙ waits
+    next = next_waits (w.way server id) x xs here
 
     n : IsNext packet_form s server id gs (w.way server id).delivered x
     n = next_is packet_form s server id gs (accepted_at packet_form s w id) (w.way server id) x (valid_scene s v w h) (at_server s v w h) refl ci.link_down next
@@ -130,14 +134,14 @@ down_right s v w i c x h at waits = record {
     knows : is_up (heard_of packet_form e ∷ accepted_at packet_form s w id) server ≡ true
     knows = arrival_up packet_form (accepted_at packet_form s w id) server server x.class x.bytes n.message n.reads ∙ ci.knows
 
-    this : ClientIs packet_form s gs (e ∷ w.events id) (later.way server id) (way_with (later.way id server) (packets_in t.outcome) server) id (record d { kept = t.kept; up = way_with d.up (packets_in t.outcome) server })
+    this : ClientIs packet_form s gs (e ∷ w.events id) (later.way server id) (way_with (later.way id server) (packets_in t.outcome) server) id (record d { kept = t.kept; up = waiting_with d.up (packets_in t.outcome) server })
     this = client_by packet_form s gs gs (e ∷ w.events id) (e ∷ w.events id) (one_more (w.way server id)) (later.way server id)
-        (way_with (w.way id server) (packets_in t.outcome) server) (way_with (later.way id server) (packets_in t.outcome) server) id (record d { kept = t.kept; up = way_with d.up (packets_in t.outcome) server })
+        (way_with (w.way id server) (packets_in t.outcome) server) (way_with (later.way id server) (packets_in t.outcome) server) id (record d { kept = t.kept; up = waiting_with d.up (packets_in t.outcome) server })
         refl refl (sym down_here) (ap (λ y. way_with y (packets_in t.outcome) server) (sym (up_same i)))
         (client_of_client packet_form s gs (w.events id) (one_more (w.way server id)) (w.way id server) id d e t (step.accepts, at_client s w id c ci) step knows
         (reads_as packet_form (peer_of s id) c.kept (w.events id) e server ci.who ci.stands tt step.accepts knows)
         (link_arrives packet_form s server id gs (accepted_at packet_form s w id) (w.way server id) (heard_of packet_form e) n.message n.told (arrival_brings packet_form (peer_of s id) (accepted_at packet_form s w id) server x.class x.bytes n.message n.reads) ci.link_down)
-        ci.known (ap one_more ci.down_is) ci.up_is ci.link_up)
+        ci.known (sym (rest_waits (w.way server id) x xs here)) ci.up_is ci.link_up)
 
     now : HasParts packet_form s (client_made v i d e).parts (fed packet_form s later id e)
     now = client_after packet_form s v later i d e t h.live h.who h.stands h.few h.numbers said
@@ -153,9 +157,9 @@ down_right s v w i c x h at waits = record {
 up_link : (i : ℕ) → is_no_link (number_of i) server ≡ false
 up_link i = ap₂ (λ a b. a || (not b && false)) (not_server i) (not_server i)
 
-pub up_right : (s : Scene) (v : Parts) (w : World) (i : ℕ) (c : Client) (x : Out) → HasParts packet_form s v w → slice_get v.clients i ≡ Some c → slice_get c.up.sent c.up.delivered ≡ Some x
-    → RightAt s w (Rel (number_of i) server) (server_made (with_client v i (record c { up = one_more c.up })) (event.Received (number_of i) x.class x.bytes))
-up_right s v w i c x h at waits = record {
+pub up_right : (s : Scene) (v : Parts) (w : World) (i : ℕ) (c : Client) (x : Out) (xs : List Out) → HasParts packet_form s v w → slice_get v.clients i ≡ Some c → c.up ≡ x ∷ xs
+    → RightAt s w (Rel (number_of i) server) (server_made (with_client v i (record c { up = xs })) (event.Received (number_of i) x.class x.bytes))
+up_right s v w i c x xs h at waits = record {
   answers =
       ap (peer_answer server) said ∙ ap (delivery_answer packet_form s w id server) (sym next)
       ∙ ap (λ o. refused_or o (accepted_answer packet_form s w (Rel id server))) (sym (waits_right w id server x (ap (λ b. b && true) (client_in s v w i c h at)) (up_link i) next));
@@ -169,7 +173,7 @@ up_right s v w i c x h at waits = record {
     e = event.Received id x.class x.bytes
 
     d : Client
-    d = record c { up = one_more c.up }
+    d = record c { up = xs }
 
     t : Taken
     t = taken packet_form v.server e
@@ -183,8 +187,11 @@ up_right s v w i c x h at waits = record {
     ci : IsClient packet_form s w id c
     ci = h.clients i c at
 
+    here : waiting (w.way id server) ≡ x ∷ xs
+    here = sym ci.up_is ∙ waits
+
     next : next_of (w.way id server) ≡ Some x
-    next = ap next_of (sym ci.up_is) ∙ waits
+    next = next_waits (w.way id server) x xs here
 
     n : IsNext packet_form s id server hs (w.way id server).delivered x
     n = next_is packet_form s id server hs gs (w.way id server) x (valid_scene s v w h) (at_client s w id c ci) (or_true (int_eq id server)) ci.link_up next
@@ -241,8 +248,8 @@ up_right s v w i c x h at waits = record {
         (record {
           who = ci.who;
           stands = ci.stands;
-          down_is = ap (λ y. way_with y (packets_in t.outcome) id) ci.down_is;
-          up_is = ap one_more ci.up_is;
+          down_is = ap (λ ys. waiting_with ys (packets_in t.outcome) id) ci.down_is ∙ sym (waiting_more packet_form s server id gs hs (w.way server id) (packets_in t.outcome) id ci.link_down);
+          up_is = sym (rest_waits (w.way id server) x xs here);
           known = known i c ci;
           knows = ci.knows;
           link_down = link_down_now;
@@ -283,19 +290,19 @@ client_there v p e h = by_place (place_of p) refl (sym (ap (λ b. b || is_some (
     by_place None at k = absurd (true≢false (sym k))
     by_place (Some i) at k = by_client i (slice_get v.clients i) at refl k
 
-down_of : (s : Scene) (v : Parts) (w : World) (i : ℕ) (c : Client) → HasParts packet_form s v w → slice_get v.clients i ≡ Some c → RightAt s w (Rel server (number_of i)) (deliver_down v i c (slice_get c.down.sent c.down.delivered))
-down_of s v w i c h at = by_next (slice_get c.down.sent c.down.delivered) refl
+down_of : (s : Scene) (v : Parts) (w : World) (i : ℕ) (c : Client) → HasParts packet_form s v w → slice_get v.clients i ≡ Some c → RightAt s w (Rel server (number_of i)) (deliver_down v i c c.down)
+down_of s v w i c h at = by_next c.down refl
   where
-    by_next : (o : Option Out) → slice_get c.down.sent c.down.delivered ≡ o → RightAt s w (Rel server (number_of i)) (deliver_down v i c o)
-    by_next None e = refused_right s v w (Rel server (number_of i)) refusal.NothingInFlight (nothing_right w server (number_of i) (client_in s v w i c h at) (down_link i) (ap next_of (sym (h.clients i c at).down_is) ∙ e))
-    by_next (Some x) e = down_right s v w i c x h at e
+    by_next : (ys : List Out) → c.down ≡ ys → RightAt s w (Rel server (number_of i)) (deliver_down v i c ys)
+    by_next [] e = refused_right s v w (Rel server (number_of i)) refusal.NothingInFlight (nothing_right w server (number_of i) (client_in s v w i c h at) (down_link i) (none_waits (w.way server (number_of i)) (sym (h.clients i c at).down_is ∙ e)))
+    by_next (x ∷ xs) e = down_right s v w i c x xs h at e
 
-up_of : (s : Scene) (v : Parts) (w : World) (i : ℕ) (c : Client) → HasParts packet_form s v w → slice_get v.clients i ≡ Some c → RightAt s w (Rel (number_of i) server) (deliver_up v i c (slice_get c.up.sent c.up.delivered))
-up_of s v w i c h at = by_next (slice_get c.up.sent c.up.delivered) refl
+up_of : (s : Scene) (v : Parts) (w : World) (i : ℕ) (c : Client) → HasParts packet_form s v w → slice_get v.clients i ≡ Some c → RightAt s w (Rel (number_of i) server) (deliver_up v i c c.up)
+up_of s v w i c h at = by_next c.up refl
   where
-    by_next : (o : Option Out) → slice_get c.up.sent c.up.delivered ≡ o → RightAt s w (Rel (number_of i) server) (deliver_up v i c o)
-    by_next None e = refused_right s v w (Rel (number_of i) server) refusal.NothingInFlight (nothing_right w (number_of i) server (ap (λ b. b && true) (client_in s v w i c h at)) (up_link i) (ap next_of (sym (h.clients i c at).up_is) ∙ e))
-    by_next (Some x) e = up_right s v w i c x h at e
+    by_next : (ys : List Out) → c.up ≡ ys → RightAt s w (Rel (number_of i) server) (deliver_up v i c ys)
+    by_next [] e = refused_right s v w (Rel (number_of i) server) refusal.NothingInFlight (nothing_right w (number_of i) server (ap (λ b. b && true) (client_in s v w i c h at)) (up_link i) (none_waits (w.way (number_of i) server) (sym (h.clients i c at).up_is ∙ e)))
+    by_next (x ∷ xs) e = up_right s v w i c x xs h at e
 
 pub rel_right : (s : Scene) (v : Parts) (w : World) (a b : ℤ) → HasParts packet_form s v w → RightAt s w (Rel a b) (rel_made v a b)
 rel_right s v w a b h = by_there (not (has_peer v a && has_peer v b)) refl
@@ -311,16 +318,16 @@ rel_right s v w a b h = by_there (not (has_peer v a && has_peer v b)) refl
         let c = client_there v b e there in
         subst (λ o. RightAt s w (Rel a b) (delivers_at v true o)) (sym c.at)
         (subst (λ o. RightAt s w (Rel a b) (delivers_of v true c.place o)) (sym c.there)
-        (subst (λ q. RightAt s w (Rel q b) (deliver_down v c.place c.client (slice_get c.client.down.sent c.client.down.delivered))) (sym is)
-        (subst (λ q. RightAt s w (Rel server q) (deliver_down v c.place c.client (slice_get c.client.down.sent c.client.down.delivered))) (sym (place_is b c.place c.at)) (down_of s v w c.place c.client h c.there))))
+        (subst (λ q. RightAt s w (Rel q b) (deliver_down v c.place c.client c.client.down)) (sym is)
+        (subst (λ q. RightAt s w (Rel server q) (deliver_down v c.place c.client c.client.down)) (sym (place_is b c.place c.at)) (down_of s v w c.place c.client h c.there))))
 
     to_server : b ≡ server → int_eq a server ≡ false → has_peer v a ≡ true → RightAt s w (Rel a b) (delivers_at v false (place_of a))
     to_server is e there =
         let c = client_there v a e there in
         subst (λ o. RightAt s w (Rel a b) (delivers_at v false o)) (sym c.at)
         (subst (λ o. RightAt s w (Rel a b) (delivers_of v false c.place o)) (sym c.there)
-        (subst (λ q. RightAt s w (Rel a q) (deliver_up v c.place c.client (slice_get c.client.up.sent c.client.up.delivered))) (sym is)
-        (subst (λ q. RightAt s w (Rel q server) (deliver_up v c.place c.client (slice_get c.client.up.sent c.client.up.delivered))) (sym (place_is a c.place c.at)) (up_of s v w c.place c.client h c.there))))
+        (subst (λ q. RightAt s w (Rel a q) (deliver_up v c.place c.client c.client.up)) (sym is)
+        (subst (λ q. RightAt s w (Rel q server) (deliver_up v c.place c.client c.client.up)) (sym (place_is a c.place c.at)) (up_of s v w c.place c.client h c.there))))
 
     by_end : (x : Bool) → int_eq a server ≡ x → int_eq a b ≡ false → (not x && not (int_eq b server)) ≡ false → has_peer v a ≡ true → has_peer v b ≡ true → RightAt s w (Rel a b) (if x then delivers_at v true (place_of b) else delivers_at v false (place_of a))
     by_end true e apart near here there = from_server (int_is a server e) (int_comm b server ∙ ap (λ q. int_eq q b) (sym (int_is a server e)) ∙ apart) there

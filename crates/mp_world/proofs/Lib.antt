@@ -19,3 +19,4 @@ pub mod SoundValues
 pub mod Takes
 pub mod Worlds
 pub mod Writable
+pub mod Waiting

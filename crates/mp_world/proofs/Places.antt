@@ -11,8 +11,8 @@ use Rattle.scene_model.specs.declared.outcome.Out.{Out}
 use Rattle.peer_model.specs.Heard.{server}
 use Rattle.peer_laws.proofs.Tests.{never}
 use Rattle.peer_laws.proofs.Numbers.{int_comm, int_is}
-use Rattle.world_model.specs.World.{Way, way_with, is_in, World}
-use Rattle.mp_world.specs.Steps.{Parts, Client, number_of, place_of, client_at, has_peer, with_packets}
+use Rattle.world_model.specs.World.{is_in, World}
+use Rattle.mp_world.specs.Steps.{Parts, Client, number_of, place_of, client_at, has_peer, waiting_with, with_packets}
 use Rattle.mp_world.specs.Stands.{numbers_to}
 
 -- numbers of clients
@@ -95,7 +95,7 @@ length-set (x ∷ xs) (suc i) y = ap suc (length-set xs i y)
 
 -- a client with packets on its way
 abbrev pub with_sent : List Out → ℤ → Client → Client
-with_sent packets id c = record c { down = way_with c.down packets id }
+with_sent packets id c = record c { down = waiting_with c.down packets id }
 
 each_sent_from : (P : ℕ → Client → Type 0) (packets : List Out) (k : ℕ) (cs : List Client) → EachAt (λ i c. P i (with_sent packets (number_of (k + i)) c)) cs → EachAt P (with_packets packets k cs)
 each_sent_from P packets k [] each j x e = absurd (cc e)
@@ -113,8 +113,8 @@ pub length-packets : (packets : List Out) (k : ℕ) (cs : List Client) → lengt
 length-packets packets k [] = refl
 length-packets packets k (c ∷ cs) = ap suc (length-packets packets (suc k) cs)
 
-pub no_packets : (y : Way) (b : ℤ) → way_with y [] b ≡ y
-no_packets y b = ap (λ xs. record y { sent = xs }) (append-nil y.sent)
+pub no_packets : (xs : List Out) (b : ℤ) → waiting_with xs [] b ≡ xs
+no_packets xs b = append-nil xs
 
 pub nothing_put : (k : ℕ) (cs : List Client) → with_packets [] k cs ≡ cs
 nothing_put k [] = refl

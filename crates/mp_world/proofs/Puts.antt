@@ -10,29 +10,28 @@ use Rattle.std.proofs.lemmas.Bool.{true≢false, lt-ltb}
 use Rattle.scene_model.specs.declared.outcome.Out.{Out}
 use Rattle.peer_laws.proofs.Tests.{never}
 use Rattle.peer_laws.proofs.Numbers.{int_is}
-use Rattle.world_model.specs.World.{Way, way_with}
-use Rattle.mp_world.specs.Steps.{Client, number_of, place_of, with_packets}
+use Rattle.mp_world.specs.Steps.{Client, number_of, place_of, waiting_with, with_packets}
 use Rattle.mp_world.proofs.Links.{take_one}
 use Rattle.mp_world.proofs.Places.{place_is, place_of_number, some_same, numbers_apart, no_packets, got_below}
 
 -- a client with one packet more on its way
 abbrev pub with_packet : Client → Out → Client
-with_packet c x = record c { down = record c.down { sent = c.down.sent ++ x ∷ [] } }
+with_packet c x = record c { down = c.down ++ x ∷ [] }
 
-way_joined : (y : Way) (ps qs : List Out) (b : ℤ) → way_with y (ps ++ qs) b ≡ way_with (way_with y ps b) qs b
-way_joined y ps qs b =
+waiting_joined : (xs ps qs : List Out) (b : ℤ) → waiting_with xs (ps ++ qs) b ≡ waiting_with (waiting_with xs ps b) qs b
+waiting_joined xs ps qs b =
     let test : Out → Bool = λ x. int_eq x.link b in
-    ap (λ xs. record y { sent = xs }) (ap (λ xs. y.sent ++ xs) (filter-append test ps qs) ∙ sym (append_assoc y.sent (filter test ps) (filter test qs)))
+    ap (λ ys. xs ++ ys) (filter-append test ps qs) ∙ sym (append_assoc xs (filter test ps) (filter test qs))
 
 -- some packets, and then others
 pub put_joined : (ps qs : List Out) (k : ℕ) (cs : List Client) → with_packets (ps ++ qs) k cs ≡ with_packets qs k (with_packets ps k cs)
 put_joined ps qs k [] = refl
-put_joined ps qs k (c ∷ cs) = ap₂ (λ y ds. record c { down = y } ∷ ds) (way_joined c.down ps qs (number_of k)) (put_joined ps qs (suc k) cs)
+put_joined ps qs k (c ∷ cs) = ap₂ (λ y ds. record c { down = y } ∷ ds) (waiting_joined c.down ps qs (number_of k)) (put_joined ps qs (suc k) cs)
 
 -- one packet on a way, by whether it is for that client
-one_on : (c : Client) (x : Out) (b : ℤ) (t : Bool) → int_eq x.link b ≡ t → (record c { down = way_with c.down (x ∷ []) b }) ≡ cond t (with_packet c x) c
-one_on c x b true e = ap (λ t. record c { down = record c.down { sent = c.down.sent ++ cond t (x ∷ []) [] } }) e
-one_on c x b false e = ap (λ t. record c { down = record c.down { sent = c.down.sent ++ cond t (x ∷ []) [] } }) e ∙ ap (λ y. record c { down = y }) (no_packets c.down b)
+one_on : (c : Client) (x : Out) (b : ℤ) (t : Bool) → int_eq x.link b ≡ t → (record c { down = waiting_with c.down (x ∷ []) b }) ≡ cond t (with_packet c x) c
+one_on c x b true e = ap (λ t. record c { down = c.down ++ cond t (x ∷ []) [] }) e
+one_on c x b false e = ap (λ t. record c { down = c.down ++ cond t (x ∷ []) [] }) e ∙ ap (λ y. record c { down = y }) (no_packets c.down b)
 
 -- a packet that is for none of these clients
 nobody_put : (x : Out) (k : ℕ) (cs : List Client) → ((j : ℕ) → k ≤ j → j < k + length cs → int_eq x.link (number_of j) ≡ false) → with_packets (x ∷ []) k cs ≡ cs

@@ -1,5 +1,5 @@
 -- From what the code of a step says of its parts to what the step makes.
-use Rattle.std.proofs.Common.{◌≡◌, ℕ, ◌<◌, is_some, ℤ, List, length, subst, [], ◌++◌, filter, refl, sym, ap, ap₂, ◌∙◌, Option, Some, None, Result, Ok, Err}
+use Rattle.std.proofs.Common.{◌≡◌, ℕ, ◌<◌, is_some, ℤ, List, length, subst, [], ◌∷◌, ◌++◌, filter, refl, sym, ap, ap₂, ◌∙◌, Option, Some, None, Result, Ok, Err}
 use Rattle.std.specs.Prelude.{IfOk, OnOk, MatchOption, slice_get, slice_index_or, option_map, option_and_then, ◌&&◌, ◌||◌, not, if◌then◌else◌, true, false, Bool}
 use Rattle.std.specs.List.{slice_set}
 use Rattle.std.specs.Ordering.{int_eq}
@@ -16,8 +16,8 @@ use Rattle.peer_model.specs.Heard.{server}
 use Rattle.peer_core.specs.Kept.{Kept}
 use Rattle.scene_model.specs.declared.scene.Scene.{Scene}
 use Rattle.peer_core.specs.Steps.{Taken, packet_form, taken}
-use Rattle.world_model.specs.World.{Way, way_with, packets_in, peer_answer, received}
-use Rattle.mp_world.specs.Steps.{Client, Parts, Made, live_parts, place_of, has_peer, new_client, new_peer, with_packets, with_client, unchanged, one_more, server_made, client_does, does_at, op_made, deliver_down, deliver_up, delivers_of, delivers_at, rel_made}
+use Rattle.world_model.specs.World.{packets_in, peer_answer, received}
+use Rattle.mp_world.specs.Steps.{Client, Parts, Made, live_parts, place_of, has_peer, new_client, new_peer, with_packets, with_client, unchanged, server_made, client_does, does_at, op_made, deliver_down, deliver_up, delivers_of, delivers_at, rel_made, IsTaken, number_of, client_made, waiting_with}
 use Rattle.mp_world.proofs.Places.{nothing_put, place_is, got_below}
 use Rattle.mp_world.proofs.Puts.{got_at}
 use Rattle.mp_world.proofs.Worlds.{set_same}
@@ -31,12 +31,12 @@ pub sends_nothing : (cs : List Client) (o : Outcome) → packets_in o ≡ [] →
 sends_nothing cs o none = sym (ap (λ ps. with_packets ps 0 cs) none ∙ nothing_put 0 cs)
 
 -- a client that took an event
-pub client_took : (c : Client) (j k : Kept) (d u : Way) (xs : List Out) (e : Event) (o : Outcome) → record { kept = j; down = d; up = u } ≡ c → record { outcome = o; kept = k } ≡ taken packet_form j e → xs ≡ u.sent ++ filter (λ (x : Out). int_eq x.link server) (packets_in o)
-    → record { kept = k; down = d; up = record u { sent = xs } } ≡ record c { kept = (taken packet_form c.kept e).kept; up = way_with c.up (packets_in (taken packet_form c.kept e).outcome) server }
+pub client_took : (c : Client) (j k : Kept) (d u xs : List Out) (e : Event) (o : Outcome) → record { kept = j; down = d; up = u } ≡ c → record { outcome = o; kept = k } ≡ taken packet_form j e → xs ≡ u ++ filter (λ (x : Out). int_eq x.link server) (packets_in o)
+    → record { kept = k; down = d; up = xs } ≡ record c { kept = (taken packet_form c.kept e).kept; up = waiting_with c.up (packets_in (taken packet_form c.kept e).outcome) server }
 client_took c j k d u xs e o is step sent =
-    ap (λ ys. record { kept = k; down = d; up = record u { sent = ys } }) sent
-    ∙ ap (λ (t : Taken). record { kept = t.kept; down = d; up = way_with u (packets_in t.outcome) server }) step
-    ∙ ap (λ (x : Client). record x { kept = (taken packet_form x.kept e).kept; up = way_with x.up (packets_in (taken packet_form x.kept e).outcome) server }) is
+    ap (λ ys. record { kept = k; down = d; up = ys }) sent
+    ∙ ap (λ (t : Taken). record { kept = t.kept; down = d; up = waiting_with u (packets_in t.outcome) server }) step
+    ∙ ap (λ (x : Client). record x { kept = (taken packet_form x.kept e).kept; up = waiting_with x.up (packets_in (taken packet_form x.kept e).outcome) server }) is
 
 -- what was made, by another name of it
 pub made_as : {E : Type 0} (r : Result WorldOutcome E) (v : Parts) (m n : Made) → m ≡ n → IfOk r (λ o. record { outcome = o; parts = v } ≡ m) → IfOk r (λ o. record { outcome = o; parts = v } ≡ n)
@@ -44,7 +44,7 @@ made_as r v m n is h = subst (λ x. IfOk r (λ o. record { outcome = o; parts = 
 
 -- a client after an event
 abbrev pub took : Client → Event → Client
-took c e = record c { kept = (taken packet_form c.kept e).kept; up = way_with c.up (packets_in (taken packet_form c.kept e).outcome) server }
+took c e = record c { kept = (taken packet_form c.kept e).kept; up = waiting_with c.up (packets_in (taken packet_form c.kept e).outcome) server }
 
 -- an operation of a client that is there
 pub does_there : {E : Type 0} (r : Result WorldOutcome E) (k : Kept) (cs : List Client) (p : ℤ) (op : Operation) (i : ℕ) (c d : Client) → place_of p ≡ Some i → i < length cs → c ≡ slice_index_or cs i c
@@ -60,42 +60,45 @@ pub op_of_client : (v : Parts) (p : ℤ) (op : Operation) → int_eq p server �
 op_of_client v p op other = sym (ap (λ b. if b then server_made v (event.Op op) else does_at v op (place_of p)) other)
 
 -- no packet for a client
-pub nothing_down : (v : Parts) (i : ℕ) (c d : Client) (next : Option Out) → slice_get v.clients i ≡ Some c → d ≡ c → None ≡ option_map (received server) next → record { outcome = answers.Refused refusal.NothingInFlight; parts = with_client v i d } ≡ deliver_down v i c next
-nothing_down v i c d (Some x) at same none = absurd (cc none)
-nothing_down v i c d None at same none = ap (λ cs. unchanged (record v { clients = cs }) (answers.Refused refusal.NothingInFlight)) (ap (slice_set v.clients i) same ∙ set_same v.clients i c at)
+pub nothing_down : (v : Parts) (i : ℕ) (c d : Client) → slice_get v.clients i ≡ Some c → d ≡ c → c.down ≡ [] → record { outcome = answers.Refused refusal.NothingInFlight; parts = with_client v i d } ≡ deliver_down v i c c.down
+nothing_down v i c d at same none =
+    ap (λ cs. unchanged (record v { clients = cs }) (answers.Refused refusal.NothingInFlight)) (ap (slice_set v.clients i) same ∙ set_same v.clients i c at)
+    ∙ sym (ap (deliver_down v i c) none)
+
+-- the next packet for a client, which took it
+pub taken_down : {E : Type 0} (r : Result WorldOutcome E) (v : Parts) (i : ℕ) (p : ℤ) (c d e : Client) (x : Out) (got : Event) → c.down ≡ x ∷ d.down → d ≡ record c { down = d.down } → got ≡ received server x → p ≡ number_of i
+    → OnOk r (e ≡ took d got) → IfOk r (λ o. o ≡ peer_answer p (taken packet_form d.kept got).outcome) → IfOk r (λ o. record { outcome = o; parts = with_client v i e } ≡ deliver_down v i c c.down)
+taken_down (Err z) v i p c d e x got next rest is num now said = tt
+taken_down (Ok o) v i p c d e x got next rest is num now said =
+    ap₂ (λ y f. record { outcome = y; parts = with_client v i f }) (said ∙ ap (λ q. peer_answer q (taken packet_form d.kept got).outcome) num) now
+    ∙ ap (client_made v i d) is
+    ∙ ap (λ z. client_made v i z (received server x)) rest
+    ∙ sym (ap (deliver_down v i c) next)
 
 -- the next packet for a client that is there
-pub down_there : (v : Parts) (p : ℤ) (i : ℕ) (c : Client) → place_of p ≡ Some i → slice_get v.clients i ≡ Some c → deliver_down v i c (slice_get c.down.sent c.down.delivered) ≡ delivers_at v true (place_of p)
+pub down_there : (v : Parts) (p : ℤ) (i : ℕ) (c : Client) → place_of p ≡ Some i → slice_get v.clients i ≡ Some c → deliver_down v i c c.down ≡ delivers_at v true (place_of p)
 down_there v p i c e at = sym (ap (delivers_at v true) e ∙ ap (delivers_of v true i) at)
 
-same_event : (a b : Event) → Some a ≡ Some b → a ≡ b
-same_event a b h = cc
-
--- the next packet from a client
-pub up_there : {E : Type 0} (r : Result WorldOutcome E) (k s : Kept) (cs es : List Client) (p : ℤ) (i : ℕ) (c d : Client) (got : Event) → place_of p ≡ Some i → slice_get cs i ≡ Some c → Some got ≡ option_map (received p) (slice_get c.up.sent c.up.delivered)
-    → d ≡ record c { up = one_more c.up } → OnOk r (s ≡ (taken packet_form k got).kept) → OnOk r (es ≡ with_packets (packets_in (taken packet_form k got).outcome) 0 (slice_set cs i d)) → IfOk r (λ o. o ≡ peer_answer server (taken packet_form k got).outcome)
+-- the next packet from a client, which the server took
+pub up_there : {E : Type 0} (r : Result WorldOutcome E) (k s : Kept) (cs es : List Client) (p : ℤ) (i : ℕ) (c d : Client) (x : Out) (got : Event) → place_of p ≡ Some i → slice_get cs i ≡ Some c → c.up ≡ x ∷ d.up → d ≡ record c { up = d.up } → got ≡ received p x
+    → OnOk r (s ≡ (taken packet_form k got).kept) → OnOk r (es ≡ with_packets (packets_in (taken packet_form k got).outcome) 0 (slice_set cs i d)) → IfOk r (λ o. o ≡ peer_answer server (taken packet_form k got).outcome)
     → IfOk r (λ o. record { outcome = o; parts = live_parts s es } ≡ delivers_at (live_parts k cs) false (Some i))
-up_there (Err x) k s cs es p i c d got e at next moved kept clients said = tt
-up_there (Ok o) k s cs es p i c d got e at next moved kept clients said = by_next (slice_get c.up.sent c.up.delivered) next ∙ sym (ap (delivers_of (live_parts k cs) false i) at)
+up_there (Err z) k s cs es p i c d x got e at next rest is kept clients said = tt
+up_there (Ok o) k s cs es p i c d x got e at next rest is kept clients said =
+    ap₂ (λ y ds. record { outcome = y; parts = live_parts s ds }) said clients
+    ∙ ap₂ (λ j f. record { outcome = peer_answer server (taken packet_form k got).outcome; parts = live_parts j (with_packets (packets_in (taken packet_form k got).outcome) 0 (slice_set cs i f)) }) kept rest
+    ∙ ap made_of is ∙ ap (λ q. made_of (received q x)) (place_is p i e)
+    ∙ sym (ap (delivers_of (live_parts k cs) false i) at ∙ ap (deliver_up (live_parts k cs) i c) next)
   where
     made_of : Event → Made
-    made_of f = server_made (with_client (live_parts k cs) i (record c { up = one_more c.up })) f
-
-    by_next : (n : Option Out) → Some got ≡ option_map (received p) n → record { outcome = o; parts = live_parts s es } ≡ deliver_up (live_parts k cs) i c n
-    by_next None h = absurd (cc h)
-    by_next (Some x) h =
-        ap₂ (λ y ds. record { outcome = y; parts = live_parts s ds }) said clients
-        ∙ ap₂ (λ j f. record { outcome = peer_answer server (taken packet_form k got).outcome; parts = live_parts j (with_packets (packets_in (taken packet_form k got).outcome) 0 (slice_set cs i f)) }) kept moved
-        ∙ ap made_of (same_event got (received p x) h) ∙ ap (λ q. made_of (received q x)) (place_is p i e)
+    made_of f = server_made (with_client (live_parts k cs) i (record c { up = d.up })) f
 
 -- no packet from a client
-pub nothing_up : (k : Kept) (cs : List Client) (p : ℤ) (i : ℕ) (c d : Client) → slice_get cs i ≡ Some c → None ≡ option_map (received p) (slice_get c.up.sent c.up.delivered) → d ≡ c
+pub nothing_up : (k : Kept) (cs : List Client) (i : ℕ) (c d : Client) → slice_get cs i ≡ Some c → IsTaken c.up d.up None → d ≡ record c { up = d.up }
     → record { outcome = answers.Refused refusal.NothingInFlight; parts = live_parts k (slice_set cs i d) } ≡ delivers_at (live_parts k cs) false (Some i)
-nothing_up k cs p i c d at none same = by_next (slice_get c.up.sent c.up.delivered) none ∙ sym (ap (delivers_of (live_parts k cs) false i) at)
-  where
-    by_next : (n : Option Out) → None ≡ option_map (received p) n → record { outcome = answers.Refused refusal.NothingInFlight; parts = live_parts k (slice_set cs i d) } ≡ deliver_up (live_parts k cs) i c n
-    by_next (Some x) h = absurd (cc h)
-    by_next None h = ap (λ ds. unchanged (live_parts k ds) (answers.Refused refusal.NothingInFlight)) (ap (slice_set cs i) same ∙ set_same cs i c at)
+nothing_up k cs i c d at none rest =
+    ap (λ ds. unchanged (live_parts k ds) (answers.Refused refusal.NothingInFlight)) (ap (slice_set cs i) (rest ∙ ap (λ us. record c { up = us }) (none.1 ∙ sym none.0)) ∙ set_same cs i c at)
+    ∙ sym (ap (delivers_of (live_parts k cs) false i) at ∙ ap (deliver_up (live_parts k cs) i c) none.0)
 
 -- which packets can be delivered
 abbrev rel_by : Parts → ℤ → ℤ → Bool → Bool → Bool → Made
@@ -129,13 +132,6 @@ pub flag_true : (b x : Bool) → b ≡ not x → b ≡ true → x ≡ false
 flag_true b true is h = sym h ∙ is
 flag_true b false is h = refl
 
--- what is said of an option that is known
-pub none_of : {X : Type 0} (o : Option X) (P : Type 0) (Q : X → Type 0) → MatchOption o P Q → o ≡ None → P
-none_of o P Q h is = subst (λ x. MatchOption x P Q) is h
-
-pub some_of : {X : Type 0} (o : Option X) (x : X) (P : Type 0) (Q : X → Type 0) → MatchOption o P Q → o ≡ Some x → Q x
-some_of o x P Q h is = subst (λ y. MatchOption y P Q) is h
-
 -- a peer that isn't the server is there where it is a client
 pub there_by_place : (k : Kept) (cs : List Client) (p : ℤ) (o : Option ℕ) (b : Bool) → b ≡ is_some o → MatchOption o (option_and_then (slice_get cs) (place_of p) ≡ None) (λ i. (place_of p ≡ Some i) × (i < length cs)) → int_eq p server ≡ false → b ≡ has_peer (live_parts k cs) p
 there_by_place k cs p None b is h other = is ∙ sym (ap₂ (λ x y. x || is_some y) other h)
@@ -144,7 +140,7 @@ there_by_place k cs p (Some i) b is h other =
 
 -- a new client, by what its step made
 pub new_client_is : (s : Scene) (id : ℤ) (p k : Kept) (o : Outcome) (ds ss xs : List Out) → p ≡ new_peer s id → record { outcome = o; kept = k } ≡ taken packet_form p (event.Up server) → ds ≡ [] → ss ≡ [] → xs ≡ ss ++ filter (λ (x : Out). int_eq x.link server) (packets_in o)
-    → record { kept = k; down = record { sent = ds; delivered = 0 }; up = record { sent = xs; delivered = 0 } } ≡ new_client (taken packet_form (new_peer s id) (event.Up server)).kept (packets_in (taken packet_form (new_peer s id) (event.Up server)).outcome)
+    → record { kept = k; down = ds; up = xs } ≡ new_client (taken packet_form (new_peer s id) (event.Up server)).kept (packets_in (taken packet_form (new_peer s id) (event.Up server)).outcome)
 new_client_is s id p k o ds ss xs fresh step down start sent =
-    ap₂ (λ ys zs. record { kept = k; down = record { sent = ys; delivered = 0 }; up = record { sent = zs; delivered = 0 } }) down (sent ∙ ap (λ ws. ws ++ filter (λ (x : Out). int_eq x.link server) (packets_in o)) start)
+    ap₂ (λ ys zs. record { kept = k; down = ys; up = zs }) down (sent ∙ ap (λ ws. ws ++ filter (λ (x : Out). int_eq x.link server) (packets_in o)) start)
     ∙ ap (λ (t : Taken). new_client t.kept (packets_in t.outcome)) (step ∙ ap (λ q. taken packet_form q (event.Up server)) fresh)

@@ -26,8 +26,8 @@ use Rattle.spawn_track.specs.Judged.{shown_judged}
 use Rattle.peer_core.specs.Judged.{link_judged}
 use Rattle.peer_core.specs.Steps.{packet_form, taken, shown_taken, message_taken, linked_taken, read_taken, spawn_read, is_done, AllReadablePlains}
 use Rattle.peer_core.proofs.Whole.{kept_still}
-use Rattle.world_model.specs.World.{World, world, happens, packets_in, peer_answer, world_answer, happened, way_with}
-use Rattle.mp_world.specs.Steps.{Parts, Made, Client, scene_of, number_of, new_peer, place_of, has_peer, with_packets, with_client, unchanged, connect_with, connect_made, server_made, client_made, client_does, does_at, op_made, deliver_down, deliver_up, delivers_of, delivers_at, rel_made, made, plains_made}
+use Rattle.world_model.specs.World.{World, world, happens, packets_in, peer_answer, world_answer, happened}
+use Rattle.mp_world.specs.Steps.{Parts, Made, Client, scene_of, number_of, new_peer, place_of, has_peer, waiting_with, with_packets, with_client, unchanged, connect_with, connect_made, server_made, client_made, client_does, does_at, op_made, deliver_down, deliver_up, delivers_of, delivers_at, rel_made, made, plains_made}
 use Rattle.mp_world.specs.Stands.{HasParts, Stands, is_built_event}
 use Rattle.mp_world.proofs.Places.{no_packets, nothing_put, some_same}
 use Rattle.mp_world.proofs.Operations.{RightAt, op_right}
@@ -82,7 +82,7 @@ client_still : (v : Parts) (i : ℕ) (c : Client) (e : Event) → slice_get v.cl
 client_still v i c e at h =
     let t = taken packet_form c.kept e in
     let no = not_happened (number_of i) t.outcome h in
-    ap₂ (λ k ps. with_client v i (record c { kept = k; up = way_with c.up ps server })) (kept_still packet_form c.kept e no.0) no.1
+    ap₂ (λ k ps. with_client v i (record c { kept = k; up = waiting_with c.up ps server })) (kept_still packet_form c.kept e no.0) no.1
     ∙ ap (λ y. with_client v i (record c { up = y })) (no_packets c.up server)
     ∙ ap (λ cs. record v { clients = cs }) (set_same v.clients i c at)
 
@@ -132,13 +132,13 @@ read_happens k from p (Ok m) = linked_happens k from p m (link_judged k.who k.up
 received_happens : (k : Kept) (from p : ℤ) (class : Class) (bytes : List ℕ) → happened (peer_answer p (taken packet_form k (event.Received from class bytes)).outcome) ≡ true
 received_happens k from p class bytes = read_happens k from p (packet_form.read_packet bytes)
 
-down_still : (v : Parts) (i : ℕ) (c : Client) (o : Option Out) → happened (deliver_down v i c o).outcome ≡ false → (deliver_down v i c o).parts ≡ v
-down_still v i c None h = refl
-down_still v i c (Some x) h = absurd (true≢false (sym (received_happens c.kept server (number_of i) x.class x.bytes) ∙ h))
+down_still : (v : Parts) (i : ℕ) (c : Client) (xs : List Out) → happened (deliver_down v i c xs).outcome ≡ false → (deliver_down v i c xs).parts ≡ v
+down_still v i c [] h = refl
+down_still v i c (x ∷ xs) h = absurd (true≢false (sym (received_happens c.kept server (number_of i) x.class x.bytes) ∙ h))
 
-up_still : (v : Parts) (i : ℕ) (c : Client) (o : Option Out) → happened (deliver_up v i c o).outcome ≡ false → (deliver_up v i c o).parts ≡ v
-up_still v i c None h = refl
-up_still v i c (Some x) h = absurd (true≢false (sym (received_happens v.server (number_of i) server x.class x.bytes) ∙ h))
+up_still : (v : Parts) (i : ℕ) (c : Client) (xs : List Out) → happened (deliver_up v i c xs).outcome ≡ false → (deliver_up v i c xs).parts ≡ v
+up_still v i c [] h = refl
+up_still v i c (x ∷ xs) h = absurd (true≢false (sym (received_happens v.server (number_of i) server x.class x.bytes) ∙ h))
 
 delivers_still : (v : Parts) (is_down : Bool) (o : Option ℕ) → happened (delivers_at v is_down o).outcome ≡ false → (delivers_at v is_down o).parts ≡ v
 delivers_still v is_down None h = refl
@@ -146,8 +146,8 @@ delivers_still v is_down (Some i) h = by_client is_down (slice_get v.clients i) 
   where
     by_client : (d : Bool) (o : Option Client) → happened (delivers_of v d i o).outcome ≡ false → (delivers_of v d i o).parts ≡ v
     by_client d None k = refl
-    by_client true (Some c) k = down_still v i c (slice_get c.down.sent c.down.delivered) k
-    by_client false (Some c) k = up_still v i c (slice_get c.up.sent c.up.delivered) k
+    by_client true (Some c) k = down_still v i c c.down k
+    by_client false (Some c) k = up_still v i c c.up k
 
 rel_still : (v : Parts) (a b : ℤ) → happened (rel_made v a b).outcome ≡ false → (rel_made v a b).parts ≡ v
 rel_still v a b = by_rows (not (has_peer v a && has_peer v b)) (int_eq a b || (not (int_eq a server) && not (int_eq b server))) (int_eq a server)

@@ -1,5 +1,5 @@
 -- Which script a world stands for.
-use Rattle.std.specs.Prelude.{◌≡◌, ℕ, zero, suc, ◌≤◌, ℤ, Bool, true, false, ◌&&◌, List, [], ◌∷◌, map, length, take, slice_get, Some}
+use Rattle.std.specs.Prelude.{◌≡◌, ℕ, zero, suc, ◌≤◌, ℤ, Bool, true, false, ◌&&◌, List, [], ◌∷◌, map, length, take, drop, slice_get, Some}
 use Rattle.std.specs.List.{list_all}
 use Rattle.gd_variant.specs.Sound.{is_sound, is_text}
 use Rattle.scene_model.specs.declared.scene.Scene.{Scene}
@@ -7,6 +7,7 @@ use Rattle.scene_model.specs.declared.event.Event.{Event}
 use Rattle.scene_model.specs.declared.event.Op.{Op as Operation}
 use Rattle.scene_model.specs.declared.event.Op.TheVariants.{Spawn, Set}
 use Rattle.scene_model.specs.declared.scene.Prop.{Prop}
+use Rattle.scene_model.specs.declared.outcome.Out.{Out}
 use Rattle.scene_model.specs.declared.world.WorldEvent.{WorldEvent}
 use Rattle.scene_model.specs.declared.world.WorldEvent.TheVariants.{Connect, Op, Rel}
 use Rattle.peer_model.specs.Heard.{Heard, server}
@@ -47,12 +48,16 @@ pub record IsLink (form : PacketForm) (s : Scene) (a b : ℤ) (here there : List
   pub within : y.delivered ≤ length (changes (peer_of s a) here b)
   pub got : updates_from (peer_of s b) there a ≡ take y.delivered (changes (peer_of s a) here b)
 
+-- what waits on a way: what was sent and not delivered
+abbrev pub waiting : Way → List Out
+waiting y = drop y.delivered y.sent
+
 -- A client is the one with this number, by the accepted events of the server, its own events, and both ways of their link.
 pub record ClientIs (form : PacketForm) (s : Scene) (at_server : List Heard) (events : List Event) (down up : Way) (id : ℤ) (c : Client) : Type 0 where
   pub who : c.kept.who ≡ peer_of s id
   pub stands : StandsFor form c.kept events
-  pub down_is : c.down ≡ down
-  pub up_is : c.up ≡ up
+  pub down_is : c.down ≡ waiting down
+  pub up_is : c.up ≡ waiting up
   pub known : is_up at_server id ≡ true
   pub knows : is_up (accepted_events form (peer_of s id) events) server ≡ true
   pub link_down : IsLink form s server id at_server (accepted_events form (peer_of s id) events) down

@@ -1,5 +1,5 @@
 -- What a world keeps, and what each event makes of it.
-use Rattle.std.specs.Prelude.{ℕ, suc, ◌+◌, ℤ, pos, Bool, true, false, not, ◌&&◌, ◌||◌, List, [], ◌∷◌, ◌++◌, map, length, slice_get, Option, Some, None, is_some, option_map, option_and_then, nat_le, if◌then◌else◌}
+use Rattle.std.specs.Prelude.{◌≡◌, ℕ, suc, ◌+◌, ℤ, pos, Bool, true, false, not, ◌&&◌, ◌||◌, List, [], ◌∷◌, ◌++◌, map, filter, length, slice_get, Option, Some, None, is_some, option_map, option_and_then, nat_le, if◌then◌else◌}
 use Rattle.std.specs.List.{slice_set}
 use Rattle.std.specs.Ordering.{int_eq}
 use Rattle.gd_variant.specs.declared.message.Plain.{Plain}
@@ -19,13 +19,13 @@ use Rattle.peer_model.specs.View.{row_of}
 use Rattle.peer_core.specs.Kept.{Kept}
 use Rattle.peer_core.specs.Steps.{Taken, packet_form, taken, plains_taken}
 use Rattle.headless_tree.specs.Nodes.{fixed_nodes}
-use Rattle.world_model.specs.World.{Way, way_with, packets_in, effects_in, step_of, peer_answer, most_clients}
+use Rattle.world_model.specs.World.{Way, packets_in, effects_in, step_of, peer_answer, most_clients}
 
--- a client: what it keeps, and both ways of its link
+-- a client: what it keeps, and what waits on both ways of its link, oldest first
 pub record Client : Type 0 where
   pub kept : Kept
-  pub down : Way
-  pub up : Way
+  pub down : List Out
+  pub up : List Out
 
 -- what contracts see of a world: whether it is spent, the server, and the clients by number from 2
 pub record Parts : Type 0 where
@@ -66,6 +66,15 @@ has_peer v p = int_eq p server || is_some (client_at v p)
 abbrev pub empty_way : Way
 empty_way = record { sent = []; delivered = 0 }
 
+-- the packets for the other end of a link, behind those that wait there
+abbrev pub waiting_with : List Out → List Out → ℤ → List Out
+waiting_with xs packets b = xs ++ filter (λ (x : Out). int_eq x.link b) packets
+
+-- what waits before and after the next packet of a way is taken, if there is one
+abbrev pub IsTaken : List Out → List Out → Option Out → Type 0
+IsTaken old new None = (old ≡ []) × (new ≡ [])
+IsTaken old new (Some x) = old ≡ x ∷ new
+
 -- a new peer
 abbrev pub new_peer : Scene → ℤ → Kept
 new_peer s id = record { who = record { id = id; scene = s }; spent = false; come = []; up = []; nodes = fixed_nodes s; next = 1; rows = [] }
@@ -76,12 +85,12 @@ first_parts s = record { spent = false; server = new_peer s server; clients = []
 
 -- a new client that sent these packets
 abbrev pub new_client : Kept → List Out → Client
-new_client k packets = record { kept = k; down = empty_way; up = way_with empty_way packets server }
+new_client k packets = record { kept = k; down = []; up = waiting_with [] packets server }
 
 -- clients from a place on, with the server's packets for them on their ways
 abbrev pub with_packets : List Out → ℕ → List Client → List Client
 with_packets packets i [] = []
-with_packets packets i (c ∷ cs) = record c { down = way_with c.down packets (number_of i) } ∷ with_packets packets (suc i) cs
+with_packets packets i (c ∷ cs) = record c { down = waiting_with c.down packets (number_of i) } ∷ with_packets packets (suc i) cs
 
 -- nothing changes
 abbrev pub unchanged : Parts → WorldOutcome → Made
@@ -114,7 +123,7 @@ with_client v i c = record v { clients = slice_set v.clients i c }
 
 -- an event at the client at a place
 abbrev pub client_with : Parts → ℕ → Client → Taken → Made
-client_with v i c t = record { outcome = peer_answer (number_of i) t.outcome; parts = with_client v i (record c { kept = t.kept; up = way_with c.up (packets_in t.outcome) server }) }
+client_with v i c t = record { outcome = peer_answer (number_of i) t.outcome; parts = with_client v i (record c { kept = t.kept; up = waiting_with c.up (packets_in t.outcome) server }) }
 
 -- the client at a place takes an event
 abbrev pub client_made : Parts → ℕ → Client → Event → Made
@@ -139,19 +148,19 @@ abbrev pub one_more : Way → Way
 one_more y = record y { delivered = y.delivered + 1 }
 
 -- the next packet for the client at a place
-abbrev pub deliver_down : Parts → ℕ → Client → Option Out → Made
-deliver_down v i c None = unchanged v (answers.Refused refusal.NothingInFlight)
-deliver_down v i c (Some x) = client_made v i (record c { down = one_more c.down }) (event.Received server x.class x.bytes)
+abbrev pub deliver_down : Parts → ℕ → Client → List Out → Made
+deliver_down v i c [] = unchanged v (answers.Refused refusal.NothingInFlight)
+deliver_down v i c (x ∷ xs) = client_made v i (record c { down = xs }) (event.Received server x.class x.bytes)
 
 -- the next packet from the client at a place
-abbrev pub deliver_up : Parts → ℕ → Client → Option Out → Made
-deliver_up v i c None = unchanged v (answers.Refused refusal.NothingInFlight)
-deliver_up v i c (Some x) = server_made (with_client v i (record c { up = one_more c.up })) (event.Received (number_of i) x.class x.bytes)
+abbrev pub deliver_up : Parts → ℕ → Client → List Out → Made
+deliver_up v i c [] = unchanged v (answers.Refused refusal.NothingInFlight)
+deliver_up v i c (x ∷ xs) = server_made (with_client v i (record c { up = xs })) (event.Received (number_of i) x.class x.bytes)
 
 -- a delivery to or from a client, where there is one
 abbrev pub delivers_of : Parts → Bool → ℕ → Option Client → Made
 delivers_of v is_down i None = unchanged v (answers.Refused refusal.NoPeer)
-delivers_of v is_down i (Some c) = if is_down then deliver_down v i c (slice_get c.down.sent c.down.delivered) else deliver_up v i c (slice_get c.up.sent c.up.delivered)
+delivers_of v is_down i (Some c) = if is_down then deliver_down v i c c.down else deliver_up v i c c.up
 
 -- a delivery to or from the client at a place, where there is one
 abbrev pub delivers_at : Parts → Bool → Option ℕ → Made

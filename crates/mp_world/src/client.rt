@@ -1,20 +1,21 @@
-//! The clients of a world: what each holds, and both ways of its link.
+//! The clients of a world: what each holds, and what waits on both ways of its link.
 ghost use Rattle.std.specs.Prelude.{◌≡◌, ◌∷◌, ◌++◌, ◌<◌, [], None, OnOk, MatchOption, Some, length, option_and_then, slice_get};
 ghost use Rattle.mp_world.specs.Steps.{place_of as place_with, with_packets};
 
-use crate::way::{Way, push_copy};
+use crate::way::push_copy;
 use gd_variant::OutOfMemory;
 use peer_core::Peer;
 use scene_model::Out;
 use std::alloc::Global;
+use std::collections::VecDeque;
 use std::marker::Model;
 
-/// A client: what it holds, and both ways of its link.
+/// A client: what it holds, and what waits on both ways of its link.
 #[derive(Drop)]
 pub struct Client {
     pub peer: Peer,
-    pub down: Way,
-    pub up: Way,
+    pub down: VecDeque<Out>,
+    pub up: VecDeque<Out>,
 }
 
 impl Model for Client {
@@ -26,7 +27,7 @@ impl Model for Client {
 
     ghost coded = { Prim.hlevel (codes, variant.the_row.coded) };
 
-    ghost view = { λ c. record { kept = c.peer; down = record { sent = c.down.sent.items; delivered = c.down.delivered }; up = record { sent = c.up.sent.items; delivered = c.up.delivered } } };
+    ghost view = { λ c. record { kept = c.peer; down = c.down.items; up = c.up.items } };
 }
 
 /// The place of a client by its number, from 0: clients are numbered from 2.
@@ -57,9 +58,9 @@ pub fn client_place(clients: &Vec<Client>, number: &i32) -> Option<usize>
 }
 
 fn put_down(client: &mut Client, packet: &Out, alloc: Global) -> Result<(), OutOfMemory>
-    ensures { OnOk result (client.new ≡ record client.old { down = record client.old.down { sent = client.old.down.sent ++ packet.now ∷ [] } }) }
+    ensures { OnOk result (client.new ≡ record client.old { down = client.old.down ++ packet.now ∷ [] }) }
 {
-    push_copy(&mut client.down.sent, packet, alloc)
+    push_copy(&mut client.down, packet, alloc)
 }
 
 fn put_packet(clients: &mut Vec<Client>, packet: &Out, alloc: Global) -> Result<(), OutOfMemory>

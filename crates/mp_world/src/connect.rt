@@ -9,12 +9,12 @@ ghost use Rattle.mp_world.specs.Steps.{connect_made, live_parts, new_client as c
 
 use crate::client::Client;
 use crate::steps::{SERVER, effects_of, send_down, send_up, step};
-use crate::way::Way;
 use gd_variant::OutOfMemory;
 use peer_core::Peer;
 use scene_model::{Event, Outcome, PeerStep, Scene, WorldNo, WorldOutcome};
 use sqlite_items::Items;
 use std::alloc::Global;
+use std::collections::VecDeque;
 
 /// The most clients that are up.
 const MOST_CLIENTS: usize = 64;
@@ -29,13 +29,9 @@ fn new_client(alloc: Global, number: &i32, scene: &Scene) -> Result<(Client, Out
     let id = *number;
     let mut peer = Peer::new(alloc, id, scene)?;
     let outcome = step(&mut peer, alloc, Event::Up(SERVER))?;
-    let mut sent = Vec::new(alloc);
-    send_up(&mut sent, alloc, &outcome)?;
-    let down = Way {
-        sent: Vec::new(alloc),
-        delivered: 0,
-    };
-    let up = Way { sent, delivered: 0 };
+    let down = VecDeque::new(alloc);
+    let mut up = VecDeque::new(alloc);
+    send_up(&mut up, alloc, &outcome)?;
     Ok((Client { peer, down, up }, outcome))
 }
 

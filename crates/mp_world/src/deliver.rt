@@ -1,17 +1,16 @@
 //! Packets that are delivered.
-ghost use Rattle.std.specs.Prelude.{◌≡◌, ℕ, Some, ◌<◌, ◌&&◌, ◌||◌, ◌+◌, not, true, false, length, option_map, slice_get, IfOk, OnOk, MatchOption};
+ghost use Rattle.std.specs.Prelude.{◌≡◌, ℕ, Some, ◌<◌, ◌&&◌, ◌||◌, not, true, false, length, slice_get, IfOk};
 ghost use Rattle.std.specs.Ordering.{int_eq};
 ghost use Rattle.peer_model.specs.Heard.{server as server_id};
 ghost use Rattle.peer_core.specs.Kept.{Kept};
-ghost use Rattle.world_model.specs.World.{received};
-ghost use Rattle.mp_world.specs.Steps.{Parts as PartsOf, deliver_down, deliver_up, delivers_at, has_peer, live_parts, number_of, one_more, place_of as place_with, rel_made, with_client};
+ghost use Rattle.mp_world.specs.Steps.{IsTaken, Parts as PartsOf, deliver_down, delivers_at, has_peer, live_parts, number_of, place_of as place_with, rel_made, with_client};
 
 use crate::client::{Client, client_place};
 use crate::steps::{SERVER, is_server, take_at_client, take_at_server};
-use crate::way::take_next;
+use crate::way::{arrival, take_next};
 use gd_variant::OutOfMemory;
 use peer_core::Peer;
-use scene_model::{Event, WorldNo, WorldOutcome};
+use scene_model::{Out, WorldNo, WorldOutcome};
 use std::alloc::Global;
 
 /// Whether a peer is there.
@@ -36,20 +35,20 @@ fn is_link(from: &i32, to: &i32) -> bool
 
 /// The next packet for a client.
 fn take_down(client: &mut Client, alloc: Global, number: &i32) -> Result<WorldOutcome, OutOfMemory>
-    ensures { (v : PartsOf) (i : ℕ) → slice_get v.clients i ≡ Some client.old → number.now ≡ number_of i → IfOk result (λ o. record { outcome = o; parts = with_client v i client.new } ≡ deliver_down v i client.old (slice_get client.old.down.sent client.old.down.delivered)) }
+    ensures { (v : PartsOf) (i : ℕ) → slice_get v.clients i ≡ Some client.old → number.now ≡ number_of i → IfOk result (λ o. record { outcome = o; parts = with_client v i client.new } ≡ deliver_down v i client.old client.old.down) }
 {
-    match take_next(&mut client.down, alloc, &SERVER)? {
-        Some(event) => take_at_client(client, alloc, number, event),
+    match take_next(&mut client.down) {
+        Some(packet) => take_at_client(client, alloc, number, arrival(&SERVER, packet)),
         None => Ok(WorldOutcome::Refused(WorldNo::NothingInFlight)),
     }
 }
 
 /// The next packet from a client.
-fn take_up(client: &mut Client, alloc: Global, number: &i32) -> Result<Option<Event>, OutOfMemory>
-    ensures next { IfOk result (λ o. o ≡ option_map (received number.now) (slice_get client.old.up.sent client.old.up.delivered)) }
-    ensures client { IfOk result (λ o. MatchOption o (client.new ≡ client.old) (λ _. client.new ≡ record client.old { up = one_more client.old.up })) }
+fn take_up(client: &mut Client) -> Option<Out>
+    ensures taken { IsTaken client.old.up client.new.up result }
+    ensures rest { client.new ≡ record client.old { up = client.new.up } }
 {
-    take_next(&mut client.up, alloc, number)
+    take_next(&mut client.up)
 }
 
 /// Delivers the next packet of the server to a client.
@@ -78,8 +77,8 @@ fn deliver_from(
     requires within { place < length clients.old.items }
     ensures { IfOk result (λ o. record { outcome = o; parts = live_parts server.new clients.new.items } ≡ delivers_at (live_parts server.old clients.old.items) false (Some place)) }
 {
-    match take_up(&mut clients[place], alloc, number)? {
-        Some(event) => take_at_server(server, clients, alloc, event),
+    match take_up(&mut clients[place]) {
+        Some(packet) => take_at_server(server, clients, alloc, arrival(number, packet)),
         None => Ok(WorldOutcome::Refused(WorldNo::NothingInFlight)),
     }
 }

@@ -6,8 +6,8 @@ ghost use Rattle.peer_model.specs.Heard.{server as server_id};
 ghost use Rattle.peer_core.specs.Rights.{is_sound_event};
 ghost use Rattle.peer_core.specs.Stands.{is_built_event};
 ghost use Rattle.peer_core.specs.Steps.{packet_form, taken};
-ghost use Rattle.world_model.specs.World.{effects_in, packets_in, peer_answer, way_with};
-ghost use Rattle.mp_world.specs.Steps.{with_packets};
+ghost use Rattle.world_model.specs.World.{effects_in, packets_in, peer_answer};
+ghost use Rattle.mp_world.specs.Steps.{waiting_with, with_packets};
 
 use crate::client::{Client, put_packets};
 use crate::way::put_on;
@@ -16,6 +16,7 @@ use peer_core::Peer;
 use scene_model::{Effects, Event, Out, Outcome, PeerStep, WorldOutcome};
 use sqlite_items::Items;
 use std::alloc::Global;
+use std::collections::VecDeque;
 
 /// The server's number.
 pub const SERVER: i32 = 1;
@@ -73,11 +74,15 @@ fn answer_of(alloc: Global, peer: &i32, outcome: Outcome) -> Result<WorldOutcome
 }
 
 /// A client's packets go on its way to the server.
-pub fn send_up(sent: &mut Vec<Out>, alloc: Global, outcome: &Outcome) -> Result<(), OutOfMemory>
-    ensures { OnOk result (sent.new.items ≡ sent.old.items ++ filter (λ (x : OutOf). int_eq x.link server_id) (packets_in outcome.now)) }
+pub fn send_up(
+    waiting: &mut VecDeque<Out>,
+    alloc: Global,
+    outcome: &Outcome,
+) -> Result<(), OutOfMemory>
+    ensures { OnOk result (waiting.new.items ≡ waiting.old.items ++ filter (λ (x : OutOf). int_eq x.link server_id) (packets_in outcome.now)) }
 {
     match outcome {
-        Outcome::Done(effects) => put_on(sent, alloc, effects.packets.as_slice(), &SERVER),
+        Outcome::Done(effects) => put_on(waiting, alloc, effects.packets.as_slice(), &SERVER),
         _ => Ok(()),
     }
 }
@@ -124,10 +129,10 @@ pub fn take_at_client(
 ) -> Result<WorldOutcome, OutOfMemory>
     requires built { is_built_event event ≡ true }
     requires sound { is_sound_event event ≡ true }
-    ensures client { OnOk result (client.new ≡ record client.old { kept = (taken packet_form client.old.kept event).kept; up = way_with client.old.up (packets_in (taken packet_form client.old.kept event).outcome) server_id }) }
+    ensures client { OnOk result (client.new ≡ record client.old { kept = (taken packet_form client.old.kept event).kept; up = waiting_with client.old.up (packets_in (taken packet_form client.old.kept event).outcome) server_id }) }
     ensures outcome { IfOk result (λ o. o ≡ peer_answer number.now (taken packet_form client.old.kept event).outcome) }
 {
     let outcome = step(&mut client.peer, alloc, event)?;
-    send_up(&mut client.up.sent, alloc, &outcome)?;
+    send_up(&mut client.up, alloc, &outcome)?;
     answer_of(alloc, number, outcome)
 }

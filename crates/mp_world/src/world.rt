@@ -90,7 +90,7 @@ fn report_at(
     }
 }
 
-/// The server and its clients, numbered from 2, with what was sent on their links and how much of it was delivered.
+/// The server and its clients, numbered from 2, with what waits on their links.
 ///
 /// After want of memory it is spent, and says so from then on.
 #[derive(Drop)]

@@ -1,19 +1,18 @@
-use Rattle.std.proofs.Common.{sym, ◌∙◌}
 use Rattle.mp_world.proofs.Puts.{got_at}
-use Rattle.mp_world.proofs.Takes.{up_there, nothing_up, none_of, some_of}
+use Rattle.mp_world.proofs.Takes.{up_there, nothing_up}
 use Rattle.mp_world.proofs.deliver.deliver_from.Goals as goal
 
 pub returns-in-Some : goal.returns-in-Some
 returns-in-Some c =
     let cs = c.args.clients.now.items in
-    up_there c.take_at_server.result c.args.server.now _ cs _ c.args.number.now c.args.place c.index_mut.result.now _ c.in-Some.event c.requires.place
+    up_there c.take_at_server.result c.args.server.now _ cs _ c.args.number.now c.args.place c.index_mut.result.now _ c.in-Some.packet c.arrival.result c.requires.place
     (got_at cs c.args.place c.index_mut.result.now c.requires.within c.index_mut.ensures.value)
-    (sym c.in-Some.is ∙ c.in_ok-event.ensures.next) (some_of c.in_ok-event.field-0 c.in-Some.event _ _ c.in_ok-event.ensures.client c.in-Some.is)
+    c.in-Some.ensures.taken c.in-Some.ensures.rest c.arrival.ensures
     c.take_at_server.ensures.server c.take_at_server.ensures.clients c.take_at_server.ensures.outcome
 
 pub returns-in-None : goal.returns-in-None
 returns-in-None c =
     let cs = c.args.clients.now.items in
-    nothing_up c.args.server.now cs c.args.number.now c.args.place c.index_mut.result.now _
+    nothing_up c.args.server.now cs c.args.place c.index_mut.result.now _
     (got_at cs c.args.place c.index_mut.result.now c.requires.within c.index_mut.ensures.value)
-    (sym c.in-None.is ∙ c.in_ok-event.ensures.next) (none_of c.in_ok-event.field-0 _ _ c.in_ok-event.ensures.client c.in-None.is)
+    c.in-None.ensures.taken c.in-None.ensures.rest

@@ -1,15 +1,20 @@
-use Rattle.std.proofs.Common.{sym, ap, ◌∙◌}
-use Rattle.std.specs.Prelude.{option_map, slice_get}
-use Rattle.peer_model.specs.Heard.{server}
-use Rattle.world_model.specs.World.{received}
-use Rattle.mp_world.specs.declared.way.Way.{Way}
+use Rattle.std.proofs.Common.{List, sym, ap, ◌∙◌}
+use Rattle.scene_model.specs.declared.outcome.Out.{Out}
 use Rattle.mp_world.specs.Steps.{Client}
-use Rattle.mp_world.proofs.Takes.{nothing_down, none_of}
+use Rattle.mp_world.proofs.Takes.{nothing_down, taken_down}
 use Rattle.mp_world.proofs.deliver.take_down.Goals as goal
+
+pub returns-in-Some : goal.returns-in-Some
+returns-in-Some c = λ v i at number.
+    let inside = c.client.inside in
+    taken_down c.take_at_client.result v i c.args.number.now c.args.client.now (record { kept = inside.peer; down = c.take_next.new.waiting.items; up = inside.up.items }) _ c.in-Some.packet c.arrival.result
+    (sym (ap (λ (x : Client). x.down) c.client.view_is) ∙ c.in-Some.ensures)
+    (ap (λ (x : Client). record x { down = c.take_next.new.waiting.items }) c.client.view_is)
+    c.arrival.ensures number c.take_at_client.ensures.client c.take_at_client.ensures.outcome
 
 pub returns-in-None : goal.returns-in-None
 returns-in-None c = λ v i at number.
     let inside = c.client.inside in
-    nothing_down v i c.args.client.now _ _ at
-    (ap (λ (w : Way). record { kept = inside.peer; down = record { sent = w.sent.items; delivered = w.delivered }; up = record { sent = inside.up.sent.items; delivered = inside.up.delivered } }) (none_of c.in_ok-event.field-0 _ _ c.in_ok-event.ensures.way c.in-None.is) ∙ c.client.view_is)
-    (sym c.in-None.is ∙ c.in_ok-event.ensures.next ∙ ap (λ (x : Client). option_map (received server) (slice_get x.down.sent x.down.delivered)) c.client.view_is)
+    nothing_down v i c.args.client.now _ at
+    (ap (λ (xs : List Out). record { kept = inside.peer; down = xs; up = inside.up.items }) (c.in-None.ensures.1 ∙ sym c.in-None.ensures.0) ∙ c.client.view_is)
+    (sym (ap (λ (x : Client). x.down) c.client.view_is) ∙ c.in-None.ensures.0)
