@@ -1,5 +1,5 @@
 -- The names of the scenes of a valid scene, in their order.
-use Rattle.std.proofs.Common.{◌≡◌, ℕ, ◌+◌, ◌<◌, ◌≤◌, Bool, true, false, not, List, [], ◌∷◌, ◌++◌, refl, sym, ap, ◌∙◌, length, get_or, map, take, Option, Some, None, arith}
+use Rattle.std.proofs.Common.{◌≡◌, ℕ, ◌+◌, ◌<◌, ◌≤◌, false, not, List, [], ◌∷◌, ◌++◌, refl, sym, ap, ◌∙◌, length, get_or, map, take, Option, Some, None, arith}
 use Rattle.std.specs.Prelude.{position}
 use Rattle.std.specs.List.{insert, list_any}
 use Rattle.std.specs.Str.{bytes_eq}
@@ -14,7 +14,6 @@ use Rattle.scene_model.specs.Valid.{first_bad, node_why, scene_why, IsValidScene
 use Rattle.scene_model.proofs.EntryLaws.{bad_from, bad_later}
 use Rattle.scene_model.proofs.ListLaws.{any_ext, any-map}
 use Rattle.scene_model.proofs.TextLaws.{text_answer, text_eq-sym}
-use Rattle.headless_tree.specs.Nodes.{TreeOf}
 use Rattle.headless_tree.proofs.Made.{right_at, second_none, put_last}
 use Rattle.headless_tree.proofs.Places.{position-map}
 

@@ -1,6 +1,6 @@
 -- From what the code of a step says of its parts to what the step makes.
 use Rattle.std.proofs.Common.{◌≡◌, ℕ, ◌<◌, is_some, ℤ, List, length, subst, [], ◌∷◌, ◌++◌, filter, refl, sym, ap, ap₂, ◌∙◌, Option, Some, None, Result, Ok, Err}
-use Rattle.std.specs.Prelude.{IfOk, OnOk, MatchOption, slice_get, slice_index_or, option_map, option_and_then, ◌&&◌, ◌||◌, not, if◌then◌else◌, true, false, Bool}
+use Rattle.std.specs.Prelude.{IfOk, OnOk, MatchOption, slice_get, slice_index_or, option_and_then, ◌&&◌, ◌||◌, not, if◌then◌else◌, true, false, Bool}
 use Rattle.std.specs.List.{slice_set}
 use Rattle.std.specs.Ordering.{int_eq}
 use Rattle.std.proofs.lemmas.Bool.{lt-ltb}
