@@ -13,7 +13,7 @@ use Rattle.scene_model.specs.declared.scene.Node.{Node}
 use Rattle.scene_model.specs.Lookup.{fixed_paths, fixed_node}
 use Rattle.scene_model.proofs.ListLaws.{any-map, found_is_any}
 use Rattle.scene_model.proofs.TextLaws.{text_eq-sym}
-use Rattle.peer_model.specs.Updates.{Live, fixed_live, live_at}
+use Rattle.scene_model.specs.Nodes.{Live, fixed_live, live_at}
 use Rattle.headless_tree.specs.Nodes.{TreeOf, KeepsFixed, is_at, is_fixed, is_spawned, fixed_nodes, without_rows}
 use Rattle.headless_tree.specs.Order.{is_lower, may_precede, are_in_order}
 use Rattle.headless_tree.proofs.Numbered.{both, bare}

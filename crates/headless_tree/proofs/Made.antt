@@ -11,8 +11,8 @@ use Rattle.scene_model.specs.Valid.{first_bad, node_why, scene_why, path_wrong, 
 use Rattle.scene_model.proofs.EntryLaws.{bad_from, bad_here, bad_later}
 use Rattle.scene_model.proofs.ListLaws.{any_ext, any-map, found_is_any}
 use Rattle.scene_model.proofs.TextLaws.{text_eq-sym}
-use Rattle.peer_model.specs.Updates.{Live, fixed_live, live_at}
-use Rattle.peer_model.proofs.Lists.{put_is_insert}
+use Rattle.scene_model.specs.Nodes.{Live, fixed_live, live_at}
+use Rattle.gd_variant.proofs.Lists.{put_is_insert}
 use Rattle.headless_tree.specs.declared.node.NodeNow.{NodeNow}
 use Rattle.headless_tree.specs.Nodes.{TreeOf, live, is_at, row_before, fixed_nodes}
 use Rattle.headless_tree.specs.Numbers.{Paths, is_numbered, has_paths_once}

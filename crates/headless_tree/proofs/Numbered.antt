@@ -9,7 +9,7 @@ use Rattle.gd_variant.specs.Words.{text_eq, has_nat, some_is}
 use Rattle.scene_model.specs.declared.scene.Node.{Node}
 use Rattle.scene_model.proofs.TextLaws.{text_eq-true, text_eq-same, text_eq-sym}
 use Rattle.scene_model.proofs.ListLaws.{found_is_any}
-use Rattle.peer_model.specs.Updates.{Live, fixed_live}
+use Rattle.scene_model.specs.Nodes.{Live, fixed_live}
 use Rattle.headless_tree.specs.Nodes.{is_at, is_spawned, is_row_of}
 use Rattle.headless_tree.specs.Numbers.{Paths, path_under, numbers_of, has_number, has_its_path, is_numbered, has_paths_once, are_free, KeepsOthers}
 use Rattle.headless_tree.proofs.Places.{found_at, not_found, found_within, get_some}

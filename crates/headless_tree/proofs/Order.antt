@@ -6,8 +6,8 @@ use Rattle.std.specs.Ordering.{int_eq}
 use Rattle.std.proofs.lemmas.Int.{ints}
 use Rattle.gd_variant.specs.Words.{put_by, has_nat}
 use Rattle.scene_model.specs.declared.scene.Node.{Node}
-use Rattle.peer_model.specs.Updates.{Live, fixed_live}
-use Rattle.peer_model.proofs.Lists.{put_is_insert}
+use Rattle.scene_model.specs.Nodes.{Live, fixed_live}
+use Rattle.gd_variant.proofs.Lists.{put_is_insert}
 use Rattle.headless_tree.specs.Nodes.{is_spawned, row_before}
 use Rattle.headless_tree.specs.Numbers.{has_number, is_new, are_free}
 use Rattle.headless_tree.specs.Order.{is_lower, may_precede, are_in_order}

@@ -10,7 +10,7 @@ use Rattle.std.proofs.lemmas.Option.{slice_get-map, slice_get_past}
 use Rattle.std.proofs.lemmas.Slice.Eq.{bytes_eq-Decides}
 use Rattle.gd_variant.specs.Words.{text_eq}
 use Rattle.scene_model.proofs.TextLaws.{text_answer, text_eq-sym}
-use Rattle.peer_model.specs.Updates.{Live, live_at}
+use Rattle.scene_model.specs.Nodes.{Live, live_at}
 use Rattle.headless_tree.specs.declared.node.NodeNow.{NodeNow}
 use Rattle.headless_tree.specs.Nodes.{live, is_at}
 

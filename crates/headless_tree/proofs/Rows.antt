@@ -6,7 +6,7 @@ use Rattle.std.specs.Ordering.{int_eq}
 use Rattle.std.proofs.lemmas.Int.{ints}
 use Rattle.std.proofs.lemmas.List.{map-append}
 use Rattle.gd_variant.specs.Words.{text_eq, some_is}
-use Rattle.peer_model.specs.Updates.{Live}
+use Rattle.scene_model.specs.Nodes.{Live}
 use Rattle.headless_tree.specs.declared.node.NodeNow.{NodeNow}
 use Rattle.headless_tree.specs.Nodes.{live, is_at, is_spawned, is_row_of, without_rows}
 use Rattle.headless_tree.specs.Numbers.{Paths, path_under, numbers_of, has_its_path, is_numbered, has_paths_once, KeepsOtherAuthorities}

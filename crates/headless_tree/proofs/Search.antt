@@ -3,7 +3,7 @@ use Rattle.std.proofs.Common.{◌≡◌, ℕ, zero, suc, ◌<◌, ◌≤◌, Boo
 use Rattle.std.specs.List.{list_all, prefix_len}
 use Rattle.std.specs.List.Sorted.{IsPartitionedBy, IsPartitionPoint}
 use Rattle.std.proofs.lemmas.List.Sums.{prefix_len_is}
-use Rattle.peer_model.specs.Updates.{Live}
+use Rattle.scene_model.specs.Nodes.{Live}
 use Rattle.headless_tree.specs.declared.node.NodeNow.{NodeNow}
 use Rattle.headless_tree.specs.Nodes.{live, is_spawned, row_before}
 use Rattle.headless_tree.specs.Order.{is_lower, may_precede, are_in_order}

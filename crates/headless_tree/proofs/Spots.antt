@@ -12,7 +12,7 @@ use Rattle.scene_model.specs.declared.scene.Prop.{Prop}
 use Rattle.scene_model.specs.Lookup.{has_prop}
 use Rattle.scene_model.proofs.TextLaws.{text_eq-sym}
 use Rattle.scene_model.proofs.ListLaws.{any_ext, any-map, found_is_any}
-use Rattle.peer_model.specs.Updates.{Live, live_at}
+use Rattle.scene_model.specs.Nodes.{Live, live_at}
 use Rattle.headless_tree.specs.declared.node.NodeNow.{NodeNow}
 use Rattle.headless_tree.specs.declared.node.TreeNo.TheVariants.{NoNode, NoProp, ValueTooLong}
 use Rattle.headless_tree.specs.Lists.{change_at, change_first, without_first}

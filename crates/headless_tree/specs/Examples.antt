@@ -3,7 +3,7 @@ use Rattle.std.specs.Prelude.{◌≡◌, ℕ, ℤ, true, false, pos, List, [], �
 use Rattle.gd_variant.specs.Words.{put_by}
 use Rattle.gd_variant.specs.declared.value.Variant.TheVariants.{Int}
 use Rattle.scene_model.specs.declared.scene.Prop.{Prop}
-use Rattle.peer_model.specs.Updates.{Live}
+use Rattle.scene_model.specs.Nodes.{Live}
 use Rattle.headless_tree.specs.declared.node.TreeNo.TheVariants.{NoNode, NameTaken, NoProp}
 use Rattle.headless_tree.specs.Order.{are_in_order}
 use Rattle.headless_tree.specs.Nodes.{row_before, insert_no, assign_no, assigned, without_spawned, without_rows, value_at}

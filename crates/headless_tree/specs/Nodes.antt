@@ -8,8 +8,8 @@ use Rattle.scene_model.specs.declared.scene.Scene.{Scene}
 use Rattle.scene_model.specs.declared.scene.Prop.{Prop}
 use Rattle.scene_model.specs.Lookup.{fixed_node, fixed_paths, scene_at, has_prop, value_in}
 use Rattle.scene_model.specs.Paths.{joined}
-use Rattle.peer_model.specs.Updates.{Live, fixed_live, live_at}
-use Rattle.peer_model.specs.Values.{props_in}
+use Rattle.scene_model.specs.Nodes.{Live, fixed_live, live_at}
+use Rattle.scene_model.specs.Nodes.{props_in}
 use Rattle.headless_tree.specs.declared.node.NodeNow.{NodeNow}
 use Rattle.headless_tree.specs.declared.node.TreeNo.{TreeNo}
 use Rattle.headless_tree.specs.declared.node.TreeNo.TheVariants.{NoNode, NameTaken, NoProp, ValueTooLong, OutOfMemory}

@@ -2,7 +2,7 @@
 use Rattle.std.specs.Prelude.{Bool, true, not, ◌&&◌, ◌||◌, List, [], ◌∷◌, int_lt, nat_lt}
 use Rattle.std.specs.List.{list_all}
 use Rattle.std.specs.Ordering.{int_eq}
-use Rattle.peer_model.specs.Updates.{Live}
+use Rattle.scene_model.specs.Nodes.{Live}
 use Rattle.headless_tree.specs.Nodes.{is_spawned}
 
 -- whether a node's authority is lower, or the same and its number lower

@@ -8,8 +8,8 @@ ghost use Rattle.scene_model.specs.declared.scene.SceneDef.{SceneDef as SceneDef
 ghost use Rattle.scene_model.specs.Valid.{IsValidScene};
 ghost use Rattle.scene_model.specs.Lookup.{scene_at};
 ghost use Rattle.scene_model.specs.Paths.{joined as joined_of};
-ghost use Rattle.peer_model.specs.Updates.{live_at, fixed_live};
-ghost use Rattle.peer_model.specs.Values.{props_in};
+ghost use Rattle.scene_model.specs.Nodes.{live_at, fixed_live};
+ghost use Rattle.scene_model.specs.Nodes.{props_in};
 ghost use Rattle.headless_tree.specs.declared.node.NodeNow.{NodeNow as NodeOf};
 ghost use Rattle.headless_tree.specs.Numbers.{are_free, are_new};
 ghost use Rattle.headless_tree.specs.Order.{are_in_order};

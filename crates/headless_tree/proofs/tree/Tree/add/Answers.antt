@@ -3,7 +3,7 @@ use Rattle.std.specs.List.{insert, prefix_len, list_any}
 use Rattle.std.specs.String.{string_bytes}
 use Rattle.headless_tree.specs.declared.node.NodeNow.{NodeNow}
 use Rattle.scene_model.proofs.ListLaws.{found_is_any}
-use Rattle.peer_model.specs.Updates.{Live}
+use Rattle.scene_model.specs.Nodes.{Live}
 use Rattle.headless_tree.specs.Nodes.{TreeOf, KeepsFixed, live, is_at, row_before}
 use Rattle.headless_tree.specs.Numbers.{are_free, has_paths_once, has_its_path, is_numbered}
 use Rattle.headless_tree.specs.Order.{are_in_order}

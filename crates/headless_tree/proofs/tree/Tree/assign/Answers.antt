@@ -1,5 +1,5 @@
 use Rattle.std.proofs.Common.{List, ap, ◌∙◌}
-use Rattle.peer_model.specs.Updates.{Live}
+use Rattle.scene_model.specs.Nodes.{Live}
 use Rattle.headless_tree.specs.Nodes.{TreeOf}
 use Rattle.headless_tree.proofs.Spots.{spot_assigned}
 use Rattle.headless_tree.proofs.tree.Tree.assign.Goals as goal

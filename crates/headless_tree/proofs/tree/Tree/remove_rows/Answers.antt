@@ -1,6 +1,6 @@
 use Rattle.std.proofs.Common.{List, sym, ap, subst, ◌∙◌, map, not}
 use Rattle.std.specs.String.{string_bytes}
-use Rattle.peer_model.specs.Updates.{Live}
+use Rattle.scene_model.specs.Nodes.{Live}
 use Rattle.headless_tree.specs.Nodes.{TreeOf, KeepsFixed, live, is_row_of, without_rows}
 use Rattle.headless_tree.specs.Numbers.{has_paths_once, is_numbered}
 use Rattle.headless_tree.specs.Order.{are_in_order}

@@ -1,5 +1,5 @@
 use Rattle.std.proofs.Common.{◌≡◌, take, map}
-use Rattle.peer_model.specs.View.{row_of}
+use Rattle.scene_model.specs.Nodes.{row_of}
 use Rattle.headless_tree.specs.Nodes.{live}
 use Rattle.headless_tree.proofs.tree.Tree.rows.Given as goal
 
