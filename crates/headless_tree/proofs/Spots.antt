@@ -12,11 +12,12 @@ use Rattle.scene_model.specs.declared.scene.Prop.{Prop}
 use Rattle.scene_model.specs.Lookup.{has_prop}
 use Rattle.scene_model.proofs.TextLaws.{text_eq-sym}
 use Rattle.scene_model.proofs.ListLaws.{any_ext, any-map, found_is_any}
+use Rattle.scene_model.specs.Limits.{is_long}
 use Rattle.scene_model.specs.Nodes.{Live, live_at}
 use Rattle.headless_tree.specs.declared.node.NodeNow.{NodeNow}
 use Rattle.headless_tree.specs.declared.node.TreeNo.TheVariants.{NoNode, NoProp, ValueTooLong}
 use Rattle.headless_tree.specs.Lists.{change_at, change_first, without_first}
-use Rattle.headless_tree.specs.Nodes.{TreeOf, live, is_at, with_value, is_long, lacks_prop, assign_no, assigned, assigned_at, IsSpot, has_spawned, without_spawned, is_spawned}
+use Rattle.headless_tree.specs.Nodes.{TreeOf, live, is_at, with_value, lacks_prop, assign_no, assigned, assigned_at, IsSpot, has_spawned, without_spawned, is_spawned}
 use Rattle.headless_tree.proofs.Places.{first_is, found_at, not_found, found_within, get_some, node_there}
 use Rattle.headless_tree.proofs.Numbered.{bare}
 use Rattle.headless_tree.proofs.Changes.{remove_first, change_by_place, change_same, changed, map-remove}

@@ -1,15 +1,14 @@
 -- The tree of nodes: which nodes stand in it, and what each call makes of them.
-use Rattle.std.specs.Prelude.{◌≡◌, ℕ, ℤ, Bool, true, not, ◌&&◌, ◌||◌, cond, List, [], ◌∷◌, map, filter, length, Option, Some, option_and_then, is_none, is_some, nat_le, nat_lt, int_lt, slice_get, position}
+use Rattle.std.specs.Prelude.{◌≡◌, ℕ, ℤ, Bool, true, not, ◌&&◌, ◌||◌, cond, List, [], ◌∷◌, map, filter, length, MatchResult, Option, Some, None, option_and_then, is_none, is_some, nat_le, nat_lt, int_lt, slice_get, position, Result}
 use Rattle.std.specs.Ordering.{int_eq}
-use Rattle.gd_variant.specs.Words.{text_eq, some_is, when, first_of}
-use Rattle.gd_variant.specs.Size.{value_size}
+use Rattle.gd_variant.specs.Words.{text_eq, some_is, when, first_of, put_by}
 use Rattle.gd_variant.specs.declared.value.Variant.{Variant}
 use Rattle.scene_model.specs.declared.scene.Scene.{Scene}
 use Rattle.scene_model.specs.declared.scene.Prop.{Prop}
 use Rattle.scene_model.specs.Lookup.{fixed_node, fixed_paths, scene_at, has_prop, value_in}
 use Rattle.scene_model.specs.Paths.{joined}
-use Rattle.scene_model.specs.Nodes.{Live, fixed_live, live_at}
-use Rattle.scene_model.specs.Nodes.{props_in}
+pub use Rattle.scene_model.specs.Limits.{is_long}
+use Rattle.scene_model.specs.Nodes.{Live, fixed_live, live_at, props_in}
 use Rattle.headless_tree.specs.declared.node.NodeNow.{NodeNow}
 use Rattle.headless_tree.specs.declared.node.TreeNo.{TreeNo}
 use Rattle.headless_tree.specs.declared.node.TreeNo.TheVariants.{NoNode, NameTaken, NoProp, ValueTooLong, OutOfMemory}
@@ -58,10 +57,6 @@ value_at nodes path prop = option_and_then (λ (n : Live). value_in n.values pro
 abbrev pub with_value : Variant → Prop → Prop
 with_value value p = record p { value = value }
 
--- the most bytes of a value's binary form
-abbrev pub is_long : Variant → Bool
-is_long value = nat_lt 65536 (value_size value)
-
 -- the node that has no such property
 abbrev pub lacks_prop : List ℕ → Live → Bool
 lacks_prop prop n = not (has_prop prop n.values)
@@ -85,6 +80,14 @@ pub record IsSpot (nodes : List Live) (path prop : List ℕ) (place at : ℕ) : 
   pub there : slice_get nodes place ≡ Some node
   pub first : position (is_at path) nodes ≡ Some place
   pub named : position (λ (p : Prop). text_eq p.name prop) node.values ≡ Some at
+
+-- a call finds the spot of a property, or there is a reason not to assign
+abbrev pub FindsSpot : List Live → List ℕ → List ℕ → Option TreeNo → Result (ℕ × ℕ) TreeNo → Type 0
+FindsSpot nodes path prop why result = MatchResult result (λ s. (why ≡ None) × IsSpot nodes path prop s.0 s.1) (λ e. why ≡ Some e)
+
+-- a call makes these nodes, or it is refused for the reason that there is and changes nothing
+abbrev pub Assigns : TreeOf → TreeOf → Option TreeNo → List Live → Result (Unit {0}) TreeNo → Type 0
+Assigns old new why nodes result = MatchResult result (λ _. (why ≡ None) × (new ≡ record old { nodes = nodes })) (λ e. (why ≡ Some e) × (new ≡ old))
 
 -- why a property at a place of the node at a place isn't assigned
 abbrev pub assign_at_no : List Live → ℕ → ℕ → Variant → Option TreeNo
@@ -135,3 +138,13 @@ without_rows auth nodes = filter (λ (n : Live). not (is_row_of auth n)) nodes
 abbrev pub IsRefused : Option TreeNo → TreeNo → Type 0
 IsRefused why OutOfMemory = Unit {0}
 IsRefused why e = why ≡ Some e
+
+-- a call gives the path of a node below another, or there is a reason to add none
+abbrev pub NamesPath : List ℕ → List ℕ → Option TreeNo → Result (List ℕ) TreeNo → Type 0
+NamesPath under name why result = MatchResult result (λ path. (path ≡ joined under name) × (why ≡ None)) (λ e. IsRefused why e)
+
+-- a call puts this node in order among the others, or it is refused and changes nothing
+abbrev pub Inserts : TreeOf → TreeOf → List ℕ → List ℕ → Live → Result (Unit {0}) TreeNo → Type 0
+Inserts old new under name node result =
+    MatchResult result (λ _. (insert_no old.nodes under name ≡ None) × (new ≡ record old { nodes = put_by row_before node old.nodes }))
+    (λ e. IsRefused (insert_no old.nodes under name) e × (new ≡ old))

@@ -6,27 +6,23 @@ ghost use Rattle.gd_variant.specs.Words.{text_eq, some_is};
 ghost use Rattle.scene_model.specs.declared.scene.Node.{Node as SceneNode};
 ghost use Rattle.scene_model.specs.declared.scene.SceneDef.{SceneDef as SceneDefOf};
 ghost use Rattle.scene_model.specs.Valid.{IsValidScene};
-ghost use Rattle.scene_model.specs.Nodes.{Live, live_at, fixed_live};
-ghost use Rattle.scene_model.specs.Nodes.{row_of as row_seen};
+ghost use Rattle.scene_model.specs.Nodes.{Live, live_at, fixed_live, row_of as row_seen};
 ghost use Rattle.headless_tree.specs.declared.node.NodeNow.{NodeNow as NodeOf};
 ghost use Rattle.headless_tree.specs.Numbers.{has_number, is_new as is_new_in, are_new as are_new_in};
 ghost use Rattle.headless_tree.specs.Order.{are_in_order};
-ghost use Rattle.headless_tree.specs.Nodes.{live, KeepsFixed, HasFixed, is_at, value_at, fixed_nodes, assign_no, assigned, assign_at_no, assigned_at, is_long, is_row_of as is_row, is_spawned as is_spawned_in, has_spawned as has_spawned_in, without_spawned, without_rows, IsSpot};
+ghost use Rattle.headless_tree.specs.Nodes.{live, KeepsFixed, HasFixed, is_at, value_at, fixed_nodes, assign_no, assigned, assign_at_no, assigned_at, is_row_of as is_row, is_spawned as is_spawned_in, has_spawned as has_spawned_in, without_spawned, without_rows, Assigns, FindsSpot};
 
 mod making;
 mod paths;
 
 use crate::node::{NodeNow, TreeNo};
 use crate::numbers::Numbers;
-use gd_variant::{IdList, OutOfMemory, Variant, len_of};
+use gd_variant::{IdList, OutOfMemory, Variant};
 use indexmap::IndexSet;
-use scene_model::{Row, RowList, Scene};
+use scene_model::{Row, RowList, Scene, is_long};
 use sqlite_items::{Items, at as item_at};
 use std::alloc::Global;
 use std::marker::Model;
-
-/// The most bytes of a value's binary form.
-const MOST_VALUE_BYTES: u64 = 65536;
 
 /// The nodes of one peer: the fixed ones in the order of the scene, then the spawned ones by
 /// authority and number. Each path stands in `paths` at its node's place, and in `numbers` under each
@@ -204,7 +200,7 @@ impl Tree {
 
     /// Assigns to a property by the node's place and its own.
     pub fn assign_at(&mut self, place: usize, prop: usize, value: Variant) -> Result<(), TreeNo>
-        ensures { MatchResult result (λ _. (assign_at_no self.old.nodes place prop value ≡ None) × (self.new ≡ record self.old { nodes = assigned_at place prop value self.old.nodes })) (λ e. (assign_at_no self.old.nodes place prop value ≡ Some e) × (self.new ≡ self.old)) }
+        ensures { Assigns self.old self.new (assign_at_no self.old.nodes place prop value) (assigned_at place prop value self.old.nodes) result }
     {
         if self.nodes.len() <= place {
             return Err(TreeNo::NoNode);
@@ -212,7 +208,7 @@ impl Tree {
         if self.nodes[place].values.len() <= prop {
             return Err(TreeNo::NoProp);
         }
-        if is_too_long(&value) {
+        if is_long(&value) {
             return Err(TreeNo::ValueTooLong);
         }
         self.write(place, prop, value);
@@ -220,12 +216,12 @@ impl Tree {
     }
 
     fn spot(&self, path: &str, prop: &str, value: &Variant) -> Result<(usize, usize), TreeNo>
-        ensures { MatchResult result (λ s. (assign_no self.now.nodes path.now prop.now value.now ≡ None) × IsSpot self.now.nodes path.now prop.now s.0 s.1) (λ e. assign_no self.now.nodes path.now prop.now value.now ≡ Some e) }
+        ensures { FindsSpot self.now.nodes path.now prop.now (assign_no self.now.nodes path.now prop.now value.now) result }
     {
         match self.place_of(path) {
             Some(place) => match self.nodes[place].values.place_of(prop) {
                 Some(at) => {
-                    if is_too_long(value) {
+                    if is_long(value) {
                         Err(TreeNo::ValueTooLong)
                     } else {
                         Ok((place, at))
@@ -239,7 +235,7 @@ impl Tree {
 
     /// Assigns to a property of the node at a path.
     pub fn assign(&mut self, path: &str, prop: &str, value: Variant) -> Result<(), TreeNo>
-        ensures { MatchResult result (λ _. (assign_no self.old.nodes path.now prop.now value ≡ None) × (self.new ≡ record self.old { nodes = assigned path.now prop.now value self.old.nodes })) (λ e. (assign_no self.old.nodes path.now prop.now value ≡ Some e) × (self.new ≡ self.old)) }
+        ensures { Assigns self.old self.new (assign_no self.old.nodes path.now prop.now value) (assigned path.now prop.now value self.old.nodes) result }
     {
         match self.spot(path, prop, &value) {
             Ok((place, at)) => {
@@ -348,12 +344,6 @@ fn row_of(alloc: Global, node: &NodeNow) -> Result<Row, OutOfMemory>
         path: node.path.try_clone(alloc)?,
         values: node.values.to_list(alloc)?,
     })
-}
-
-fn is_too_long(value: &Variant) -> bool
-    ensures { result ≡ is_long value.now }
-{
-    MOST_VALUE_BYTES < len_of(value)
 }
 
 fn has_this_number(node: &NodeNow, auth: &i32, id: u32) -> bool

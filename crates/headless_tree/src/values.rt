@@ -8,7 +8,7 @@ ghost use Rattle.headless_tree.specs.Lists.{change_at};
 ghost use Rattle.headless_tree.specs.Nodes.{with_value};
 
 use gd_variant::{OutOfMemory, Text, Variant};
-use scene_model::{Prop, PropList, TryClone};
+use scene_model::{Prop, PropList, TryClone, same_bytes};
 use sqlite_items::Items;
 use std::alloc::Global;
 use std::marker::Model;
@@ -32,16 +32,10 @@ impl Model for Values {
     ghost view = { λ v. v.props.items };
 }
 
-fn same(a: &[u8], b: &[u8]) -> bool
-    ensures { result ≡ text_eq a.now b.now }
-{
-    a == b
-}
-
 fn has_name(prop: &Prop, name: &str) -> bool
     ensures { result ≡ text_eq prop.now.name name.now }
 {
-    same(prop.name.as_str().as_bytes(), name.as_bytes())
+    same_bytes(prop.name.as_str().as_bytes(), name.as_bytes())
 }
 
 impl Values {

@@ -1,4 +1,4 @@
-//! Texts as bytes.
+//! The equality of texts.
 ghost use Rattle.std.specs.Prelude.{◌≡◌};
 ghost use Rattle.gd_variant.specs.Words.{text_eq};
 
@@ -10,8 +10,14 @@ pub fn bytes_of(text: &Text) -> &[u8]
     text.as_str().as_bytes()
 }
 
-pub fn same(a: &[u8], b: &[u8]) -> bool
+pub fn same_bytes(a: &[u8], b: &[u8]) -> bool
     ensures { result ≡ text_eq a.now b.now }
 {
     a == b
+}
+
+pub fn same_text(a: &Text, b: &Text) -> bool
+    ensures { result ≡ text_eq a.now b.now }
+{
+    same_bytes(bytes_of(a), bytes_of(b))
 }

@@ -3,7 +3,8 @@
 //! A row tells the answer and a scene, by the words of `scene_words`. The answers come from the rules of
 //! scenes.
 use crate::scene_words::scene_of;
-use scene_model::{Scene, SceneBad, SceneWhy, TryClone, check};
+use scene_check::check;
+use scene_model::{Scene, SceneBad, SceneWhy, TryClone};
 use std::alloc::Global;
 
 const ROWS: &str = r#"

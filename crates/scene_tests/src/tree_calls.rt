@@ -7,7 +7,8 @@
 use crate::scene_words::{is_without_zero, scene_of, sevens};
 use gd_variant::{IdList, Variant};
 use headless_tree::{Tree, TreeNo};
-use scene_model::{Row, Scene, check};
+use scene_check::check;
+use scene_model::{Row, Scene};
 use sqlite_items::Items;
 use std::alloc::Global;
 use std::fmt::{Debug, Write};

@@ -2,7 +2,8 @@
 //! assignments are run by the sessions of `conformance/`.
 use gd_variant::OutOfMemory;
 use peer_core::Peer;
-use scene_model::{Event, Outcome, Scene, check};
+use scene_check::check;
+use scene_model::{Event, Outcome, Scene};
 use sqlite_items::Items;
 use std::alloc::Global;
 

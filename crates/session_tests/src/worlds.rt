@@ -2,7 +2,8 @@
 //! tests of replays and in `conformance/`.
 use gd_variant::OutOfMemory;
 use mp_world::World;
-use scene_model::{Scene, WorldEvent, WorldNo, WorldOutcome, check};
+use scene_check::check;
+use scene_model::{Scene, WorldEvent, WorldNo, WorldOutcome};
 use sqlite_items::Items;
 use std::alloc::Global;
 

@@ -8,21 +8,20 @@ ghost use Rattle.scene_model.specs.declared.scene.SceneDef.{SceneDef as SceneDef
 ghost use Rattle.scene_model.specs.Valid.{IsValidScene};
 ghost use Rattle.scene_model.specs.Lookup.{scene_at};
 ghost use Rattle.scene_model.specs.Paths.{joined as joined_of};
-ghost use Rattle.scene_model.specs.Nodes.{live_at, fixed_live};
-ghost use Rattle.scene_model.specs.Nodes.{props_in};
+ghost use Rattle.scene_model.specs.Nodes.{live_at, fixed_live, props_in};
 ghost use Rattle.headless_tree.specs.declared.node.NodeNow.{NodeNow as NodeOf};
 ghost use Rattle.headless_tree.specs.Numbers.{are_free, are_new};
 ghost use Rattle.headless_tree.specs.Order.{are_in_order};
-ghost use Rattle.headless_tree.specs.Nodes.{live, fixed_nodes, is_spawned, row_before, spawned_node, insert_no, HasFixed, IsRefused};
+ghost use Rattle.headless_tree.specs.Nodes.{live, fixed_nodes, is_spawned, row_before, spawned_node, insert_no, HasFixed, Inserts, NamesPath};
 
 use super::Tree;
-use super::paths::{joined, put_text};
+use super::paths::put_text;
 use crate::node::{NodeNow, TreeNo};
 use crate::numbers::Numbers;
 use crate::values::Values;
 use gd_variant::{IdList, OutOfMemory, Text};
 use indexmap::IndexSet;
-use scene_model::{Node, Scene, TryClone};
+use scene_model::{Node, Scene, TryClone, joined};
 use sqlite_items::Items;
 use std::alloc::Global;
 
@@ -96,7 +95,7 @@ impl Tree {
     fn new_path(&self, alloc: Global, under: &str, name: &str) -> Result<Text, TreeNo>
         requires under { HasNoZero under.now }
         requires name { HasNoZero name.now }
-        ensures path { MatchResult result (λ p. (p ≡ joined_of under.now name.now) × (insert_no self.now.nodes under.now name.now ≡ None)) (λ e. IsRefused (insert_no self.now.nodes under.now name.now) e) }
+        ensures path { NamesPath under.now name.now (insert_no self.now.nodes under.now name.now) result }
         ensures fixed { HasFixed self.now }
     {
         match self.node_at(under) {
@@ -159,7 +158,7 @@ impl Tree {
         requires name { HasNoZero name.now }
         requires scene { scene < length self.old.scene.scenes }
         requires numbers { are_new auth num ids.now self.old.nodes ≡ true }
-        ensures added { MatchResult result (λ _. (insert_no self.old.nodes under.now name.now ≡ None) × (self.new ≡ record self.old { nodes = put_by row_before (spawned_node self.old.scene (joined_of under.now name.now) auth num ids.now scene) self.old.nodes })) (λ e. IsRefused (insert_no self.old.nodes under.now name.now) e × (self.new ≡ self.old)) }
+        ensures added { Inserts self.old self.new under.now name.now (spawned_node self.old.scene (joined_of under.now name.now) auth num ids.now scene) result }
         // a node of the scene is always there to be a parent
         ensures fixed { HasFixed self.old }
     {

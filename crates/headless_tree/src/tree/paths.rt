@@ -1,9 +1,7 @@
 //! The paths of a tree's nodes and the names of its scenes, in their order.
-ghost use Rattle.std.specs.Prelude.{◌≡◌, ◌≤◌, ◌++◌, [], ◌∷◌, IfOk, OnOk, OnErr, false, length, map, insert};
+ghost use Rattle.std.specs.Prelude.{◌≡◌, ◌≤◌, OnOk, OnErr, false, length, map, insert};
 ghost use Rattle.std.specs.String.{string_bytes};
-ghost use Rattle.gd_variant.specs.Text.{HasNoZero};
 ghost use Rattle.gd_variant.specs.Words.{has_text};
-ghost use Rattle.scene_model.specs.Paths.{joined as joined_of};
 
 use gd_variant::{OutOfMemory, Text};
 use indexmap::IndexSet;
@@ -24,16 +22,4 @@ pub fn put_text(
     let key = String::from_str(alloc, text.as_str())?;
     texts.shift_insert(at, key)?;
     Ok(())
-}
-
-/// The path of a node below another.
-pub fn joined(alloc: Global, under: &str, name: &str) -> Result<Text, OutOfMemory>
-    requires under { HasNoZero under.now }
-    requires name { HasNoZero name.now }
-    ensures { IfOk result (λ t. t ≡ joined_of under.now name.now) }
-{
-    let mut path = String::from_str(alloc, under)?;
-    path.push('/')?;
-    path.push_str(name)?;
-    Text::from_str(alloc, path.as_str())
 }

@@ -1,0 +1,5 @@
+pub mod PathLaws
+pub mod PlaceLaws
+pub mod RepeatLaws
+pub mod SearchLaws
+pub mod IndexLaws
