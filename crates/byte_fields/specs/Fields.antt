@@ -1,9 +1,11 @@
 -- Fields of bytes: reading from left to right with the first fault, and the bytes of a number.
-use Rattle.std.specs.Prelude.{◌≡◌, ℕ, ◌-◌, ◌<◌, List, length, take, drop, slice_index, Result, Ok, Err, nat_lt, if◌then◌else◌}
+use Rattle.std.specs.Prelude.{ℕ, ◌-◌, ◌<◌, List, length, take, drop, slice_index, Option, Some, None, Result, Ok, Err, nat_lt, if◌then◌else◌}
 use Rattle.std.specs.Int.{Width, byte_len, from_le_bytes, to_le_bytes}
 use Rattle.gd_variant.specs.declared.message.Bad.{Bad}
 use Rattle.gd_variant.specs.declared.message.Why.{Why}
 use Rattle.gd_variant.specs.declared.message.Why.TheVariants.{Short}
+pub use Rattle.gd_variant.specs.Steps.{◌>>=◌}
+use Rattle.gd_variant.specs.Steps.{FailsWith, GivesBy}
 use Rattle.byte_fields.specs.declared.fault.Fault.{Fault}
 use Rattle.byte_fields.specs.declared.fault.ReadError.{ReadError}
 use Rattle.byte_fields.specs.declared.fault.ReadError.TheVariants as errors
@@ -14,27 +16,27 @@ use Rattle.byte_fields.specs.declared.fault.CodecStop.TheVariants as stops
 abbrev pub IsBytes : List ℕ → Type 0
 IsBytes bytes = (i : ℕ) → slice_index bytes i < 256
 
--- the next step takes what a step gave; the first fault ends it
-infixl 10 ◌>>=◌
-abbrev pub ◌>>=◌ : {A B : Type 0} → Result A Fault → (A → Result B Fault) → Result B Fault
-(Ok x) >>= f = f x
-(Err e) >>= f = Err e
+-- the reason of a reader inside a decoder to stop, unless memory ran out
+abbrev pub fault_in : ReadError → Option Fault
+fault_in errors.Memory = None
+fault_in (errors.Fault f) = Some f
+
+-- the reason of a decoder to give nothing, unless memory ran out
+abbrev pub bad_in : CodecStop → Option Bad
+bad_in stops.OutOfMemory = None
+bad_in (stops.Bad bad) = Some bad
 
 -- an error is either that reading fails so, or that memory ran out
 abbrev pub Fails : {Y : Type 0} → ReadError → Result Y Fault → Type 0
-Fails errors.Memory read = Unit {0}
-Fails (errors.Fault f) read = read ≡ Err f
+Fails e read = FailsWith (fault_in e) read
 
 -- what a reader returned, seen by view, is what reading gives, unless memory ran out
 abbrev pub Gives : {X Y : Type 0} → (X → Y) → Result X ReadError → Result Y Fault → Type 0
-Gives view (Ok x) read = read ≡ Ok (view x)
-Gives view (Err e) read = Fails e read
+Gives = GivesBy fault_in
 
 -- what a decoder returned, seen by view, is what reading gives, unless memory ran out
 abbrev pub Answers : {X Y : Type 0} → (X → Y) → Result X CodecStop → Result Y Bad → Type 0
-Answers view (Ok x) read = read ≡ Ok (view x)
-Answers view (Err stops.OutOfMemory) read = Unit {0}
-Answers view (Err (stops.Bad bad)) read = read ≡ Err bad
+Answers = GivesBy bad_in
 
 -- the wrong field begins so many bytes before the end
 abbrev pub fault : ℕ → Why → Fault

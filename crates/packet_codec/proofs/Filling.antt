@@ -5,7 +5,7 @@ use Rattle.std.proofs.lemmas.List.{append-nil}
 use Rattle.byte_fields.specs.declared.fault.Fault.{Fault}
 use Rattle.byte_fields.specs.declared.fault.ReadError.{ReadError}
 use Rattle.byte_fields.specs.declared.fault.ReadError.TheVariants as errors
-use Rattle.byte_fields.specs.Fields.{◌>>=◌, Fails, IsBytes}
+use Rattle.byte_fields.specs.Fields.{◌>>=◌, Fails}
 use Rattle.variant_codec.specs.Readers.{Reader}
 use Rattle.packet_codec.specs.Wholes.{filling_by}
 
@@ -17,15 +17,14 @@ before front read = read >>= λ xs. Ok (front ++ xs)
 pub record Fills {X : Type 0} (read : Reader X) (front : List X) (bytes : List ℕ) (total : Result (List X) Fault) : Type 0 where
   pub most : ℕ
   pub within : length bytes ≤ most
-  pub fits : IsBytes bytes
   pub so_far : before front (filling_by read most bytes) ≡ total
 
 before_nothing : {X : Type 0} (read : Result (List X) Fault) → before [] read ≡ read
 before_nothing (Ok xs) = refl
 before_nothing (Err f) = refl
 
-pub fills_start : {X : Type 0} (read : Reader X) (bytes : List ℕ) → IsBytes bytes → Fills read [] bytes (filling_by read (length bytes) bytes)
-fills_start read bytes fits = record { most = length bytes; within = omega arith; fits = fits; so_far = before_nothing (filling_by read (length bytes) bytes) }
+pub fills_start : {X : Type 0} (read : Reader X) (bytes : List ℕ) → Fills read [] bytes (filling_by read (length bytes) bytes)
+fills_start read bytes = record { most = length bytes; within = omega arith; so_far = before_nothing (filling_by read (length bytes) bytes) }
 
 regroup : {X : Type 0} (front : List X) (x : X) (read : Result (List X) Fault) → before front (read >>= λ xs. Ok (x ∷ xs)) ≡ before (front ++ x ∷ []) read
 regroup front x (Ok xs) = ap Ok (sym (append_assoc front (x ∷ []) xs))
@@ -36,16 +35,16 @@ unfolding filling_by
 one_more read n b bytes = refl
 
 -- one part more
-pub fills_on : {X : Type 0} (read : Reader X) (front now : List X) (bytes : List ℕ) (x : X) (after : List ℕ) (total : Result (List X) Fault) → (length after < length bytes) × IsBytes after → read bytes ≡ Ok (x, after) → now ≡ front ++ x ∷ [] → Fills read front bytes total
+pub fills_on : {X : Type 0} (read : Reader X) (front now : List X) (bytes : List ℕ) (x : X) (after : List ℕ) (total : Result (List X) Fault) → length after < length bytes → read bytes ≡ Ok (x, after) → now ≡ front ++ x ∷ [] → Fills read front bytes total
     → Fills read now after total
-fills_on read front now [] x after total goes h is f = absurd (omega (arith, goes.0))
+fills_on read front now [] x after total goes h is f = absurd (omega (arith, goes))
 fills_on read front now (b ∷ bytes) x after total goes h is f =
     let k : f.most ≡ suc (f.most - 1) = omega (arith, f.within) in
     let one : before front (filling_by read f.most (b ∷ bytes)) ≡ before (front ++ x ∷ []) (filling_by read (f.most - 1) after) =
     ap (λ n. before front (filling_by read n (b ∷ bytes))) k
     ∙ ap (before front) (one_more read (f.most - 1) b bytes ∙ ap (λ r. r >>= λ first. filling_by read (f.most - 1) first.1 >>= λ others. Ok (first.0 ∷ others)) h)
     ∙ regroup front x (filling_by read (f.most - 1) after) in
-    record { most = f.most - 1; within = omega (arith, goes.0, f.within); fits = goes.1; so_far = ap (λ ys. before ys (filling_by read (f.most - 1) after)) is ∙ sym one ∙ f.so_far }
+    record { most = f.most - 1; within = omega (arith, goes, f.within); so_far = ap (λ ys. before ys (filling_by read (f.most - 1) after)) is ∙ sym one ∙ f.so_far }
 
 -- the first part that fails
 pub fills_end : {X : Type 0} (e : ReadError) (read : Reader X) (front : List X) (bytes : List ℕ) (total : Result (List X) Fault) → (bytes ≡ [] → ⊥) → Fails e (read bytes) → Fills read front bytes total → Fails e total

@@ -1,16 +1,9 @@
 -- What the types of a message's fields say, put together with what is asked of its values.
-use Rattle.std.proofs.Common.{◌<◌, ◌^◌, List, [], ◌∷◌}
+use Rattle.std.proofs.Common.{List, [], ◌∷◌}
 use Rattle.std.specs.List.{AllByRecursion}
 use Rattle.gd_variant.specs.declared.message.Entry.{Entry}
 use Rattle.gd_variant.specs.declared.message.DeltaEntry.{DeltaEntry}
-use Rattle.packet_codec.specs.Written.{IsEntrySound, IsDeltaEntrySound, FitsEntry, FitsDeltaEntry}
-
--- the numbers of an entry are numbers of their width
-abbrev pub HasId : Entry → Type 0
-HasId e = e.id < 2 ^ 32
-
-abbrev pub HasNumbers : DeltaEntry → Type 0
-HasNumbers e = (e.id < 2 ^ 32) × (e.mask < 2 ^ 64)
+use Rattle.packet_codec.specs.Written.{HasId, HasNumbers, IsEntrySound, IsDeltaEntrySound, FitsEntry, FitsDeltaEntry}
 
 pub entries_fit : (es : List Entry) → AllByRecursion HasId es → AllByRecursion IsEntrySound es → AllByRecursion FitsEntry es
 entries_fit [] n s = tt

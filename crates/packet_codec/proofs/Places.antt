@@ -1,11 +1,13 @@
 -- A part takes a byte at least, and a fault stands within the bytes.
-use Rattle.std.proofs.Common.{◌≡◌, ℕ, ◌-◌, ◌≤◌, ◌<◌, Bool, ltb, List, length, take, drop, Ok, Err, ap, subst, arith}
+use Rattle.std.proofs.Common.{◌≡◌, ℕ, ◌-◌, ◌≤◌, ◌<◌, Bool, ltb, List, length, take, drop, Result, Ok, Err, ap, subst, arith}
+use Rattle.std.specs.Prelude.{IfOk}
+use denote.Ref.{Bor}
 use Rattle.std.proofs.lemmas.Bool.{ltb-false}
 use Rattle.std.proofs.lemmas.List.{length-append, length-take, length-drop}
 use Rattle.byte_fields.specs.declared.fault.Fault.{Fault}
 use Rattle.byte_fields.specs.declared.fault.ReadError.{ReadError}
 use Rattle.byte_fields.specs.declared.fault.ReadError.TheVariants as errors
-use Rattle.byte_fields.specs.Fields.{IsBytes, Fails, fault}
+use Rattle.byte_fields.specs.Fields.{IsBytes, Fails, Gives, fault}
 use Rattle.byte_fields.proofs.Fields.{IsBytes-take, passed, ok_is}
 use Rattle.gd_variant.specs.declared.value.Variant.{Variant}
 use Rattle.gd_variant.specs.declared.message.Entry.{Entry}
@@ -32,6 +34,12 @@ entry_goes = goes_on entry_reader entry_some
 
 pub delta_entry_goes : (bytes : List ℕ) (x : DeltaEntry × List ℕ) → IsBytes bytes → delta_entry_at bytes ≡ Ok x → (length x.1 < length bytes) × IsBytes x.1
 delta_entry_goes = goes_on delta_entry_reader delta_entry_some
+
+-- a function that gives what such a reader gives leaves fewer bytes
+pub gives_shorter : {X : Type 0} (read : Reader X) → ((bytes : List ℕ) (x : X × List ℕ) → IsBytes bytes → read bytes ≡ Ok x → (length x.1 < length bytes) × IsBytes x.1) → (r : Result (X × Bor (List ℕ)) ReadError) (bytes : List ℕ)
+    → IsBytes bytes → Gives (λ x. (x.0, x.1.now)) r (read bytes) → IfOk r (λ x. length x.1.now < length bytes)
+gives_shorter read goes (Ok x) bytes fits e = (goes bytes (x.0, x.1.now) fits e).0
+gives_shorter read goes (Err e) bytes fits h = tt
 
 -- ---- a fault inside a region
 

@@ -4,5 +4,6 @@ pub mod Reading
 pub mod Grammar
 pub mod Breaks
 pub mod Written
+pub mod Spawns
 pub mod Held
 pub mod Packets

@@ -201,6 +201,13 @@ abbrev pub FitsTarget : Target → Type 0
 FitsTarget (target.Id id) = id < 2147483648
 FitsTarget (target.At path) = is_text path ≡ true
 
+-- the numbers of an entry are numbers of their width
+abbrev pub HasId : Entry → Type 0
+HasId e = e.id < 2 ^ 32
+
+abbrev pub HasNumbers : DeltaEntry → Type 0
+HasNumbers e = (e.id < 2 ^ 32) × (e.mask < 2 ^ 64)
+
 abbrev pub FitsEntry : Entry → Type 0
 FitsEntry e = (e.id < 2 ^ 32) × AreSound e.values
 

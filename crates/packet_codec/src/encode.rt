@@ -10,7 +10,7 @@ use crate::put::put_peer;
 use crate::write_call::put_call;
 use crate::write_names::{put_confirm, put_simplify};
 use crate::write_samples::{put_delta, put_sync};
-use crate::write_spawn::{put_despawn, put_spawn};
+use crate::write_spawn::{SpawnParts, put_despawn, put_spawn};
 use byte_fields::{put_bytes, put_u8};
 use gd_variant::{Bytes, Message, OutOfMemory, Plain};
 use std::alloc::{AllocError, Global};
@@ -47,13 +47,15 @@ fn put_plain(out: &mut Vec<u8>, plain: &Plain) -> Result<(), AllocError>
             values,
         } => put_spawn(
             out,
-            *scene,
-            *spawner,
-            *net,
-            syncs.as_slice(),
-            name.as_str(),
-            arg,
-            values.as_slice(),
+            &SpawnParts {
+                scene: *scene,
+                spawner: *spawner,
+                net: *net,
+                syncs: syncs.as_slice(),
+                name: name.as_str(),
+                arg,
+                values: values.as_slice(),
+            },
         ),
         Plain::Despawn { net } => put_despawn(out, *net),
         Plain::Sync { tick, entries } => put_sync(out, *tick, entries.as_slice()),

@@ -7,6 +7,7 @@ ghost use Rattle.byte_fields.specs.declared.fault.ReadError.TheVariants as error
 ghost use Rattle.gd_variant.specs.Sound.{has_no_zero};
 ghost use Rattle.packet_codec.specs.Reading.{is_some, value_at, values_at, ids_at, path_at, name_length_at, name_at};
 
+use crate::parts::{Readable, parts_from};
 use byte_fields::{Fault, ReadError, u32_at};
 use gd_variant::{IdList, OutOfMemory, Text, ValueList, Variant, Why};
 use sqlite_items::Items;
@@ -34,18 +35,20 @@ pub fn value_from(alloc: Global, bytes: &[u8]) -> Result<(Variant, &[u8]), ReadE
     Ok((value, rest))
 }
 
+impl Readable for Variant {
+    ghost reading = { value_at };
+
+    fn from_bytes(alloc: Global, bytes: &[u8]) -> Result<(Variant, &[u8]), ReadError> {
+        value_from(alloc, bytes)
+    }
+}
+
 /// Compressed values up to the end.
+#[tactic(auto, unfolding(crate::specs::Reading::values_at))]
 pub fn values_from(alloc: Global, bytes: &[u8]) -> Result<ValueList, ReadError>
     ensures { Gives (λ x. x) result (values_at bytes.now) }
 {
-    let mut values = Items::new(alloc);
-    let mut rest = bytes;
-    while !rest.is_empty() {
-        let (value, after) = value_from(alloc, rest)?;
-        values.push(value)?;
-        rest = after;
-    }
-    Ok(values)
+    parts_from(alloc, bytes)
 }
 
 /// So many ids, each of four bytes.

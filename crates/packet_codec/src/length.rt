@@ -1,18 +1,19 @@
 //! How long a packet is.
 ghost use Rattle.std.specs.Prelude.{◌≡◌, ◌+◌, ◌*◌, min, length};
 ghost use Rattle.std.specs.Int.{byte_len};
-ghost use Rattle.std.specs.List.{flat_map};
 ghost use Rattle.packet_codec.specs.Head.{method_size, width_of};
 ghost use Rattle.packet_codec.specs.Written.{written_value, written_values, args_bytes, target_width, target_bytes, call_bytes, simplify_bytes, arg_bytes, entry_bytes, delta_entry_bytes, written_plain, written_packet};
 
 use crate::arguments::{fewest_node, is_raw, is_wide_method, raw_bytes};
 use crate::head::NodeWidth;
+use crate::parts::parts_len;
 use gd_variant::{DeltaEntry, Entry, Message, Plain, Target, Variant, small_len_of};
 
 /// One more than the longest packet has: it stands for every greater length.
 const TOO_LONG: u64 = 8388609;
 
-fn capped_sum(a: u64, b: u64) -> u64
+/// A sum, or 8,388,609 where it is greater.
+pub fn capped_sum(a: u64, b: u64) -> u64
     ensures { result ≡ min (a + b) 8388609 }
 {
     a.saturating_add(b).min(TOO_LONG)
@@ -112,37 +113,17 @@ fn spawn_head_len(syncs: &[u32], name: &str) -> u64
 }
 
 #[tactic(auto, using(crate::proofs::Lengths::entry_size))]
-fn entry_len(entry: &Entry) -> u64
+pub fn entry_len(entry: &Entry) -> u64
     ensures { result ≡ min (length (entry_bytes entry.now)) 8388609 }
 {
     capped_sum(8, values_len(entry.values.as_slice()))
 }
 
 #[tactic(auto, using(crate::proofs::Lengths::delta_entry_size))]
-fn delta_entry_len(entry: &DeltaEntry) -> u64
+pub fn delta_entry_len(entry: &DeltaEntry) -> u64
     ensures { result ≡ min (length (delta_entry_bytes entry.now)) 8388609 }
 {
     capped_sum(16, values_len(entry.values.as_slice()))
-}
-
-fn entries_len(entries: &[Entry]) -> u64
-    ensures { result ≡ min (length (flat_map entry_bytes entries.now)) 8388609 }
-{
-    let mut total = 0;
-    for entry in entries {
-        total = capped_sum(total, entry_len(entry));
-    }
-    total
-}
-
-fn delta_entries_len(entries: &[DeltaEntry]) -> u64
-    ensures { result ≡ min (length (flat_map delta_entry_bytes entries.now)) 8388609 }
-{
-    let mut total = 0;
-    for entry in entries {
-        total = capped_sum(total, delta_entry_len(entry));
-    }
-    total
 }
 
 #[tactic(auto, using(crate::proofs::Lengths::byte_front, crate::proofs::Lengths::half_front, crate::proofs::Lengths::word_size, crate::proofs::Lengths::filled_spawn_size))]
@@ -174,8 +155,8 @@ fn plain_len(plain: &Plain) -> u64
             )
         }
         Plain::Despawn { net: _ } => 5,
-        Plain::Sync { tick: _, entries } => capped_sum(3, entries_len(entries.as_slice())),
-        Plain::Delta { entries } => capped_sum(1, delta_entries_len(entries.as_slice())),
+        Plain::Sync { tick: _, entries } => capped_sum(3, parts_len(entries.as_slice())),
+        Plain::Delta { entries } => capped_sum(1, parts_len(entries.as_slice())),
     }
 }
 

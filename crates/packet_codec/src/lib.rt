@@ -10,6 +10,7 @@ mod head;
 mod laws;
 mod length;
 mod names;
+mod parts;
 mod put;
 mod samples;
 mod spawn;

@@ -1,12 +1,12 @@
 //! Reading samples of properties and their changes.
 ghost use Rattle.byte_fields.specs.Fields.{Gives};
-ghost use Rattle.packet_codec.specs.Wholes.{filled_by, region_by};
+ghost use Rattle.packet_codec.specs.Wholes.{region_by};
 ghost use Rattle.packet_codec.specs.Reading.{values_at, sized_values_at, entry_at, delta_entry_at, sync_at, delta_at};
 
 use crate::fields::{behind, values_from};
+use crate::parts::{Readable, parts_from};
 use byte_fields::{ReadError, u16_at, u32_at, u64_at};
-use gd_variant::{DeltaEntry, DeltaList, Entry, EntryList, Plain, ValueList};
-use sqlite_items::Items;
+use gd_variant::{DeltaEntry, Entry, Plain, ValueList};
 use std::alloc::Global;
 use variant_codec::raw_of;
 
@@ -50,32 +50,20 @@ fn delta_entry_from(alloc: Global, bytes: &[u8]) -> Result<(DeltaEntry, &[u8]), 
     Ok((DeltaEntry { id, mask, values }, rest))
 }
 
-/// Entries up to the end.
-fn entries_from(alloc: Global, bytes: &[u8]) -> Result<EntryList, ReadError>
-    ensures { Gives (λ x. x) result (filled_by entry_at bytes.now) }
-{
-    let mut entries = Items::new(alloc);
-    let mut rest = bytes;
-    while !rest.is_empty() {
-        let (entry, after) = entry_from(alloc, rest)?;
-        entries.push(entry)?;
-        rest = after;
+impl Readable for Entry {
+    ghost reading = { entry_at };
+
+    fn from_bytes(alloc: Global, bytes: &[u8]) -> Result<(Entry, &[u8]), ReadError> {
+        entry_from(alloc, bytes)
     }
-    Ok(entries)
 }
 
-/// Entries of changes up to the end.
-fn delta_entries_from(alloc: Global, bytes: &[u8]) -> Result<DeltaList, ReadError>
-    ensures { Gives (λ x. x) result (filled_by delta_entry_at bytes.now) }
-{
-    let mut entries = Items::new(alloc);
-    let mut rest = bytes;
-    while !rest.is_empty() {
-        let (entry, after) = delta_entry_from(alloc, rest)?;
-        entries.push(entry)?;
-        rest = after;
+impl Readable for DeltaEntry {
+    ghost reading = { delta_entry_at };
+
+    fn from_bytes(alloc: Global, bytes: &[u8]) -> Result<(DeltaEntry, &[u8]), ReadError> {
+        delta_entry_from(alloc, bytes)
     }
-    Ok(entries)
 }
 
 /// Samples, behind their first byte.
@@ -84,7 +72,7 @@ pub fn sync_from(alloc: Global, bytes: &[u8]) -> Result<Plain, ReadError>
     ensures { Gives (λ x. x) result (sync_at bytes.now) }
 {
     let (tick, rest) = u16_at(bytes)?;
-    let entries = entries_from(alloc, rest)?;
+    let entries = parts_from(alloc, rest)?;
     Ok(Plain::Sync { tick, entries })
 }
 
@@ -93,6 +81,6 @@ pub fn sync_from(alloc: Global, bytes: &[u8]) -> Result<Plain, ReadError>
 pub fn delta_from(alloc: Global, bytes: &[u8]) -> Result<Plain, ReadError>
     ensures { Gives (λ x. x) result (delta_at bytes.now) }
 {
-    let entries = delta_entries_from(alloc, bytes)?;
+    let entries = parts_from(alloc, bytes)?;
     Ok(Plain::Delta { entries })
 }

@@ -4,8 +4,10 @@ ghost use Rattle.std.specs.Int.{w8, w16};
 ghost use Rattle.std.specs.List.{flat_map, AllByRecursion};
 ghost use Rattle.byte_fields.specs.Fields.{word};
 ghost use Rattle.packet_codec.specs.Packets.{most_bytes};
-ghost use Rattle.packet_codec.specs.Written.{entry_bytes, delta_entry_bytes, IsEntrySound, IsDeltaEntrySound, FitsEntry, FitsDeltaEntry};
+ghost use Rattle.packet_codec.specs.Written.{entry_bytes, delta_entry_bytes, HasId, HasNumbers, IsEntrySound, IsDeltaEntrySound, FitsEntry, FitsDeltaEntry};
 
+use crate::length::{delta_entry_len, entry_len};
+use crate::parts::{Writable, put_parts};
 use crate::put::put_sized;
 use byte_fields::{put_u8, put_u16, put_u32, put_u64};
 use gd_variant::{DeltaEntry, Entry};
@@ -14,7 +16,7 @@ use std::alloc::AllocError;
 #[tactic(auto, using(crate::proofs::Lengths::entry_size), unfolding(crate::specs::Written::entry_bytes))]
 fn put_entry(out: &mut Vec<u8>, entry: &Entry) -> Result<(), AllocError>
     requires { length (entry_bytes entry.now) ≤ most_bytes }
-    ensures fits { OnOk result (entry.now.id < 2 ^ 32) }
+    ensures fits { OnOk result (HasId entry.now) }
     ensures put { OnOk result (out.new.items ≡ out.old.items ++ entry_bytes entry.now) }
 {
     put_u32(out, entry.id)?;
@@ -24,8 +26,7 @@ fn put_entry(out: &mut Vec<u8>, entry: &Entry) -> Result<(), AllocError>
 #[tactic(auto, using(crate::proofs::Lengths::delta_entry_size), unfolding(crate::specs::Written::delta_entry_bytes))]
 fn put_delta_entry(out: &mut Vec<u8>, entry: &DeltaEntry) -> Result<(), AllocError>
     requires { length (delta_entry_bytes entry.now) ≤ most_bytes }
-    ensures id_fits { OnOk result (entry.now.id < 2 ^ 32) }
-    ensures mask_fits { OnOk result (entry.now.mask < 2 ^ 64) }
+    ensures fits { OnOk result (HasNumbers entry.now) }
     ensures put { OnOk result (out.new.items ≡ out.old.items ++ delta_entry_bytes entry.now) }
 {
     put_u32(out, entry.id)?;
@@ -33,28 +34,32 @@ fn put_delta_entry(out: &mut Vec<u8>, entry: &DeltaEntry) -> Result<(), AllocErr
     put_sized(out, entry.values.as_slice())
 }
 
-fn put_entries(out: &mut Vec<u8>, entries: &[Entry]) -> Result<(), AllocError>
-    requires sound { AllByRecursion IsEntrySound entries.now }
-    requires short { length (flat_map entry_bytes entries.now) ≤ most_bytes }
-    ensures fit { OnOk result (AllByRecursion FitsEntry entries.now) }
-    ensures put { OnOk result (out.new.items ≡ out.old.items ++ flat_map entry_bytes entries.now) }
-{
-    for entry in entries {
-        put_entry(out, entry)?;
+impl Writable for Entry {
+    ghost written = { entry_bytes };
+
+    ghost fits = { HasId };
+
+    fn written_len(&self) -> u64 {
+        entry_len(self)
     }
-    Ok(())
+
+    fn put(&self, out: &mut Vec<u8>) -> Result<(), AllocError> {
+        put_entry(out, self)
+    }
 }
 
-fn put_delta_entries(out: &mut Vec<u8>, entries: &[DeltaEntry]) -> Result<(), AllocError>
-    requires sound { AllByRecursion IsDeltaEntrySound entries.now }
-    requires short { length (flat_map delta_entry_bytes entries.now) ≤ most_bytes }
-    ensures fit { OnOk result (AllByRecursion FitsDeltaEntry entries.now) }
-    ensures put { OnOk result (out.new.items ≡ out.old.items ++ flat_map delta_entry_bytes entries.now) }
-{
-    for entry in entries {
-        put_delta_entry(out, entry)?;
+impl Writable for DeltaEntry {
+    ghost written = { delta_entry_bytes };
+
+    ghost fits = { HasNumbers };
+
+    fn written_len(&self) -> u64 {
+        delta_entry_len(self)
     }
-    Ok(())
+
+    fn put(&self, out: &mut Vec<u8>) -> Result<(), AllocError> {
+        put_delta_entry(out, self)
+    }
 }
 
 /// Puts a sample at the end.
@@ -68,7 +73,7 @@ pub fn put_sync(out: &mut Vec<u8>, tick: u16, entries: &[Entry]) -> Result<(), A
 {
     put_u8(out, 6)?;
     put_u16(out, tick)?;
-    put_entries(out, entries)
+    put_parts(out, entries)
 }
 
 /// Puts changes at the end.
@@ -80,5 +85,5 @@ pub fn put_delta(out: &mut Vec<u8>, entries: &[DeltaEntry]) -> Result<(), AllocE
     ensures put { OnOk result (out.new.items ≡ out.old.items ++ (word w8 22 ++ flat_map delta_entry_bytes entries.now)) }
 {
     put_u8(out, 22)?;
-    put_delta_entries(out, entries)
+    put_parts(out, entries)
 }

@@ -1,10 +1,11 @@
 //! The Spawn packet, written.
-ghost use Rattle.std.specs.Prelude.{◌≡◌, ◌++◌, ◌<◌, ◌≤◌, ◌^◌, [], length, OnOk, true};
+ghost use Rattle.std.specs.Prelude.{◌≡◌, ◌++◌, ◌<◌, ◌≤◌, ◌^◌, length, OnOk, true};
 ghost use Rattle.std.specs.Int.{w8, w32};
 ghost use Rattle.byte_fields.specs.Fields.{word};
 ghost use Rattle.gd_variant.specs.Sound.{has_no_zero};
 ghost use Rattle.packet_codec.specs.Packets.{most_bytes};
-ghost use Rattle.packet_codec.specs.Written.{written_values, arg_bytes, spawn_bytes, FitsSpawn};
+ghost use Rattle.packet_codec.specs.Written.{arg_bytes};
+ghost use Rattle.packet_codec.specs.Spawns.{spawn_head, spawn_whole, FitsSpawnParts};
 
 use crate::length::value_len;
 use crate::put::{put_ids, put_path, put_values};
@@ -13,29 +14,34 @@ use gd_variant::Variant;
 use std::alloc::AllocError;
 use variant_codec::put_small;
 
+/// The parts of a spawn's packet.
+#[derive(Drop)]
+pub struct SpawnParts<'a> {
+    pub scene: u8,
+    pub spawner: u32,
+    pub net: u32,
+    pub syncs: &'a [u32],
+    pub name: &'a str,
+    pub arg: &'a Option<Variant>,
+    pub values: &'a [Variant],
+}
+
 /// A spawn up to the end of its name.
 #[tactic(auto, using(crate::proofs::Lengths::spawn_size))]
-fn put_spawn_head(
-    out: &mut Vec<u8>,
-    scene: u8,
-    spawner: u32,
-    net: u32,
-    syncs: &[u32],
-    name: &str,
-) -> Result<(), AllocError>
-    requires zero { has_no_zero name.now ≡ true }
-    requires short { length (spawn_bytes scene spawner net syncs.now name.now []) ≤ most_bytes }
-    ensures fits { OnOk result (FitsSpawn scene spawner net syncs.now name.now) }
-    ensures put { OnOk result (out.new.items ≡ out.old.items ++ spawn_bytes scene spawner net syncs.now name.now []) }
+fn put_spawn_head(out: &mut Vec<u8>, spawn: &SpawnParts) -> Result<(), AllocError>
+    requires zero { has_no_zero spawn.now.name.now ≡ true }
+    requires short { length (spawn_head spawn.now) ≤ most_bytes }
+    ensures fits { OnOk result (FitsSpawnParts spawn.now) }
+    ensures put { OnOk result (out.new.items ≡ out.old.items ++ spawn_head spawn.now) }
 {
     put_u8(out, 4)?;
-    put_u8(out, scene)?;
-    put_u32(out, spawner)?;
-    put_u32(out, net)?;
-    put_u32(out, syncs.len() as u32)?;
-    put_u32(out, name.len() as u32 + 1)?;
-    put_ids(out, syncs)?;
-    put_path(out, name)
+    put_u8(out, spawn.scene)?;
+    put_u32(out, spawn.spawner)?;
+    put_u32(out, spawn.net)?;
+    put_u32(out, spawn.syncs.len() as u32)?;
+    put_u32(out, spawn.name.len() as u32 + 1)?;
+    put_ids(out, spawn.syncs)?;
+    put_path(out, spawn.name)
 }
 
 /// A size and the custom argument, if there is one.
@@ -54,24 +60,15 @@ fn put_arg(out: &mut Vec<u8>, arg: &Option<Variant>) -> Result<(), AllocError>
 
 /// Puts a spawn at the end.
 #[tactic(auto, using(crate::proofs::Lengths::spawn_size, crate::proofs::Lengths::filled_spawn_size))]
-pub fn put_spawn(
-    out: &mut Vec<u8>,
-    scene: u8,
-    spawner: u32,
-    net: u32,
-    syncs: &[u32],
-    name: &str,
-    arg: &Option<Variant>,
-    values: &[Variant],
-) -> Result<(), AllocError>
-    requires zero { has_no_zero name.now ≡ true }
-    requires short { length (spawn_bytes scene spawner net syncs.now name.now (arg_bytes arg.now ++ written_values values.now)) ≤ most_bytes }
-    ensures fits { OnOk result (FitsSpawn scene spawner net syncs.now name.now) }
-    ensures put { OnOk result (out.new.items ≡ out.old.items ++ spawn_bytes scene spawner net syncs.now name.now (arg_bytes arg.now ++ written_values values.now)) }
+pub fn put_spawn(out: &mut Vec<u8>, spawn: &SpawnParts) -> Result<(), AllocError>
+    requires zero { has_no_zero spawn.now.name.now ≡ true }
+    requires short { length (spawn_whole spawn.now) ≤ most_bytes }
+    ensures fits { OnOk result (FitsSpawnParts spawn.now) }
+    ensures put { OnOk result (out.new.items ≡ out.old.items ++ spawn_whole spawn.now) }
 {
-    put_spawn_head(out, scene, spawner, net, syncs, name)?;
-    put_arg(out, arg)?;
-    put_values(out, values)
+    put_spawn_head(out, spawn)?;
+    put_arg(out, spawn.arg)?;
+    put_values(out, spawn.values)
 }
 
 /// Puts a despawn at the end.
