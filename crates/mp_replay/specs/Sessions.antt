@@ -4,7 +4,7 @@ use Rattle.scene_model.specs.declared.scene.Scene.{Scene}
 use Rattle.scene_model.specs.declared.world.WorldEvent.{WorldEvent}
 use Rattle.scene_model.specs.declared.world.WorldNo.TheVariants as refusal
 use Rattle.scene_model.specs.declared.world.WorldOutcome.TheVariants as answers
-use Rattle.peer_core.specs.Steps.{packet_form}
+use Rattle.peer_core.specs.Forms.{packet_form}
 use Rattle.world_model.specs.World.{World, world, world_answer, happened, is_in}
 use Rattle.world_model.specs.Replicas.{reported}
 use Rattle.session_text.specs.Outcomes.{outcome_lines}

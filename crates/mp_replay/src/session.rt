@@ -11,7 +11,7 @@ ghost use Rattle.scene_model.specs.declared.world.WorldOutcome.TheVariants as an
 ghost use Rattle.session_text.specs.Outcomes.{outcome_lines};
 ghost use Rattle.session_text.specs.Reports.{report_lines};
 ghost use Rattle.world_model.specs.World.{world_answer};
-ghost use Rattle.peer_core.specs.Steps.{packet_form};
+ghost use Rattle.peer_core.specs.Forms.{packet_form};
 
 use gd_variant::{Bytes, OutOfMemory};
 use line_runs::LineTaker;

@@ -23,10 +23,10 @@ use Rattle.peer_laws.specs.Built.{AllAccepted, is_unbuilt}
 use Rattle.peer_laws.proofs.Heads.{changes_are_shows, shows_in}
 use Rattle.peer_laws.proofs.Views.{updates_received, updates_of_others}
 use Rattle.peer_laws.proofs.Welcome.{welcome}
-use Rattle.peer_core.specs.Kept.{Kept}
-use Rattle.peer_core.specs.Stands.{StandsFor, is_answered}
-use Rattle.peer_core.specs.Steps.{taken, sent_to, is_done}
-use Rattle.peer_core.proofs.Packets.{is_direct, parcel_is}
+use Rattle.peer_steps.specs.Kept.{Kept}
+use Rattle.peer_steps.specs.Stands.{StandsFor, is_answered}
+use Rattle.peer_steps.specs.Steps.{taken, sent_to, is_done}
+use Rattle.peer_steps.proofs.Packets.{is_direct, parcel_is}
 use Rattle.world_model.specs.World.{Way, peer_of}
 use Rattle.mp_world.specs.Stands.{IsReadable, AllReadable, IsLink}
 use Rattle.mp_world.proofs.Places.{some_same}

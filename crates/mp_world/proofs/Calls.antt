@@ -13,8 +13,9 @@ use Rattle.scene_model.specs.declared.world.WorldOutcome.{WorldOutcome}
 use Rattle.scene_model.specs.declared.world.WorldOutcome.TheVariants as answers
 use Rattle.scene_model.specs.declared.world.WorldNo.TheVariants as refusal
 use Rattle.peer_model.specs.Heard.{Who, server}
-use Rattle.peer_core.specs.Kept.{Kept}
-use Rattle.peer_core.specs.Steps.{packet_form, taken}
+use Rattle.peer_steps.specs.Kept.{Kept}
+use Rattle.peer_steps.specs.Steps.{taken}
+use Rattle.peer_core.specs.Forms.{packet_form}
 use Rattle.world_model.specs.World.{is_in, world}
 use Rattle.world_model.specs.Replicas.{reported}
 use Rattle.mp_world.specs.Steps.{Parts, Made, Client, scene_of, live_parts, number_of, new_peer, place_of, has_peer, unchanged, connect_with, connect_made, server_made, client_does, does_at, op_made, deliver_down, deliver_up, delivers_of, delivers_at, rel_made, made, kept_at, kept_report}

@@ -9,7 +9,7 @@ use Rattle.scene_model.specs.declared.world.WorldEvent.TheVariants.{Connect, Dow
 use Rattle.scene_model.specs.declared.event.Op.TheVariants.{Spawn, Custom, Despawn, Set, Public, For, Filter, Call, Raw, Frame}
 use Rattle.scene_model.specs.declared.world.WorldOutcome.{WorldOutcome}
 use Rattle.scene_model.specs.Valid.{IsValidScene}
-use Rattle.peer_core.specs.Steps.{packet_form}
+use Rattle.peer_core.specs.Forms.{packet_form}
 use Rattle.world_model.specs.World.{world, world_answer, happened}
 use Rattle.mp_world.specs.Steps.{Parts, Made, scene_of, first_parts, made}
 use Rattle.mp_world.specs.Stands.{Stands, StandsForScript, has_sound, has_sound_values, is_built_event, is_sound_event}

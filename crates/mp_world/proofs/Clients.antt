@@ -15,9 +15,9 @@ use Rattle.peer_laws.proofs.Numbers.{int_same}
 use Rattle.peer_laws.proofs.Told.{adds}
 use Rattle.peer_laws.proofs.Ups.{up_if_was_not as never_up}
 use Rattle.peer_laws.proofs.Ways.{none_by_link}
-use Rattle.peer_core.specs.Kept.{Kept}
-use Rattle.peer_core.specs.Stands.{StandsFor}
-use Rattle.peer_core.specs.Steps.{Taken}
+use Rattle.peer_steps.specs.Kept.{Kept}
+use Rattle.peer_steps.specs.Stands.{StandsFor}
+use Rattle.peer_steps.specs.Steps.{Taken}
 use Rattle.world_model.specs.World.{World, Way, way_with, packets_in, peer_of, fed, answer_at}
 use Rattle.world_model.specs.Replicas.{accepted_at}
 use Rattle.mp_world.specs.Steps.{Parts, Client, number_of, empty_way, waiting_with, server_with, client_with}

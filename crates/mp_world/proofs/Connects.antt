@@ -27,12 +27,13 @@ use Rattle.peer_laws.proofs.Numbers.{int_same}
 use Rattle.peer_laws.proofs.FactsOf.{facts}
 use Rattle.peer_laws.proofs.Ups.{ups_come, come_is_up}
 use Rattle.peer_laws.proofs.Told.{adds, changes_never, come_still_up}
-use Rattle.peer_core.specs.Kept.{Kept}
-use Rattle.peer_core.specs.Judged.{up_judged}
-use Rattle.peer_core.specs.Stands.{StandsFor}
-use Rattle.peer_core.specs.Steps.{Taken, packet_form, taken, up_taken, up_plains, is_done, plains_taken, AllReadablePlains}
-use Rattle.peer_core.proofs.Judging.{up_judged_is}
-use Rattle.peer_core.proofs.Clauses.{start_stands}
+use Rattle.peer_steps.specs.Kept.{Kept}
+use Rattle.peer_steps.specs.Judged.{up_judged}
+use Rattle.peer_steps.specs.Stands.{StandsFor}
+use Rattle.peer_steps.specs.Steps.{Taken, taken, up_taken, up_plains, is_done, plains_taken, AllReadablePlains}
+use Rattle.peer_core.specs.Forms.{packet_form}
+use Rattle.peer_steps.proofs.Judging.{up_judged_is}
+use Rattle.peer_steps.proofs.Clauses.{start_stands}
 use Rattle.world_model.specs.World.{World, way_with, packets_in, effects_in, step_of, peer_of, next_client, fed, refused_by, refused_or, answer_at, connect_answer}
 use Rattle.world_model.specs.Replicas.{accepted_at}
 use Rattle.mp_world.specs.Steps.{Parts, Client, number_of, scene_of, empty_way, new_peer, new_client, with_packets, unchanged, connect_with, connect_made, plains_made}

@@ -19,7 +19,8 @@ use Rattle.peer_model.specs.Bytes.{heard_of}
 use Rattle.peer_laws.specs.Built.{AllAccepted}
 use Rattle.peer_laws.proofs.Numbers.{int_is, int_same, int_comm}
 use Rattle.peer_laws.proofs.Tests.{not_false, or_true}
-use Rattle.peer_core.specs.Steps.{Taken, packet_form, taken}
+use Rattle.peer_steps.specs.Steps.{Taken, taken}
+use Rattle.peer_core.specs.Forms.{packet_form}
 use Rattle.world_model.specs.World.{World, way_with, packets_in, peer_of, is_in, next_of, with_delivered, delivered_next, fed, answer_at, peer_answer, refused_by, refused_or, accepted_answer, delivery_answer}
 use Rattle.world_model.specs.Replicas.{accepted_at}
 use Rattle.mp_world.specs.Steps.{Parts, Client, number_of, place_of, client_at, has_peer, unchanged, one_more, waiting_with, with_client, client_made, server_made, deliver_down, deliver_up, delivers_of, delivers_at, rel_made}

@@ -25,11 +25,12 @@ use Rattle.peer_laws.specs.Built.{Accepts, AllAccepted, is_built_op}
 use Rattle.peer_laws.proofs.Numbers.{int_is}
 use Rattle.peer_laws.proofs.Told.{adds}
 use Rattle.peer_laws.proofs.Tests.{or_true}
-use Rattle.peer_core.specs.Kept.{Kept}
-use Rattle.spawn_track.specs.Judged.{spawn_judged}
-use Rattle.peer_core.specs.Judged.{set_judged}
-use Rattle.peer_core.specs.Stands.{StandsFor}
-use Rattle.peer_core.specs.Steps.{Taken, packet_form, taken, op_taken, spawn_taken, set_taken, is_done, plains_taken, AllReadablePlains}
+use Rattle.peer_steps.specs.Kept.{Kept}
+use Rattle.peer_steps.specs.Spawns.{spawn_judged}
+use Rattle.peer_steps.specs.Judged.{set_judged}
+use Rattle.peer_steps.specs.Stands.{StandsFor}
+use Rattle.peer_steps.specs.Steps.{Taken, taken, op_taken, spawn_taken, set_taken, is_done, plains_taken, AllReadablePlains}
+use Rattle.peer_core.specs.Forms.{packet_form}
 use Rattle.world_model.specs.World.{World, peer_of, is_in, happens, packets_in, peer_answer, refused_by, refused_or, accepted_answer, answer_at, world_answer, happened}
 use Rattle.world_model.specs.Replicas.{accepted_at}
 use Rattle.mp_world.specs.Steps.{Parts, Made, Client, number_of, place_of, client_at, has_peer, unchanged, server_made, client_made, client_does, client_plains, does_at, made, plains_made}

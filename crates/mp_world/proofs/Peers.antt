@@ -22,12 +22,12 @@ use Rattle.peer_model.specs.Answer.{decided, sends}
 use Rattle.peer_model.specs.Bytes.{PacketForm, heard_of, answer, accepted_events, out_of, outcome_of}
 use Rattle.peer_model.proofs.Accept.{accepted_done}
 use Rattle.peer_laws.specs.Built.{Accepts, AllAccepted}
-use Rattle.peer_core.specs.Kept.{Kept}
-use Rattle.spawn_track.specs.Judged.{spawn_judged, shown_judged}
-use Rattle.peer_core.specs.Judged.{up_judged, down_judged, set_judged, link_judged}
-use Rattle.peer_core.specs.Stands.{StandsFor, is_answered, is_built_event}
-use Rattle.peer_core.specs.Steps.{Taken, taken, up_taken, down_taken, spawn_taken, set_taken, op_taken, shown_taken, message_taken, linked_taken, read_taken, spawn_read, is_done}
-use Rattle.peer_core.proofs.Whole.{taken_right}
+use Rattle.peer_steps.specs.Kept.{Kept}
+use Rattle.peer_steps.specs.Spawns.{spawn_judged, shown_judged}
+use Rattle.peer_steps.specs.Judged.{up_judged, down_judged, set_judged, link_judged}
+use Rattle.peer_steps.specs.Stands.{StandsFor, is_answered, is_built_event}
+use Rattle.peer_steps.specs.Steps.{Taken, taken, up_taken, down_taken, spawn_taken, set_taken, op_taken, shown_taken, message_taken, linked_taken, read_taken, spawn_read, is_done}
+use Rattle.peer_steps.proofs.Whole.{taken_right}
 use Rattle.world_model.specs.World.{packets_in}
 
 -- what is kept is of the same peer

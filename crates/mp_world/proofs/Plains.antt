@@ -33,12 +33,12 @@ use Rattle.peer_laws.proofs.Rows.{rows_come, rows_go, rows_set, rows_receive}
 use Rattle.peer_laws.proofs.Sight.{open_rows as open_own}
 use Rattle.peer_laws.proofs.Told.{adds, shows_of, adds_nothing, adds_come, adds_spawn, go_was_up, receive_same_up}
 use Rattle.peer_laws.proofs.TreeSpawns.{tree_spawn}
-use Rattle.spawn_track.specs.Rows.{kept_row, row_of_spawn}
-use Rattle.peer_core.specs.Kept.{Kept}
-use Rattle.peer_core.specs.Stands.{StandsFor}
-use Rattle.peer_core.specs.Steps.{row_packet, open_rows, up_plains, spawn_plains, plains_taken, IsReadablePlain, AllReadablePlains}
-use Rattle.peer_core.proofs.Judging.{up_judged_is, spawn_judged_is}
-use Rattle.peer_core.proofs.Packets.{is_plain_row, row_packet_is, rows_are_plain}
+use Rattle.peer_steps.specs.Rows.{kept_row, row_of_spawn}
+use Rattle.peer_steps.specs.Kept.{Kept}
+use Rattle.peer_steps.specs.Stands.{StandsFor}
+use Rattle.peer_steps.specs.Steps.{row_packet, open_rows, up_plains, spawn_plains, plains_taken, IsReadablePlain, AllReadablePlains}
+use Rattle.peer_steps.proofs.Judging.{up_judged_is, spawn_judged_is}
+use Rattle.peer_steps.proofs.Packets.{is_plain_row, row_packet_is, rows_are_plain}
 use Rattle.mp_world.specs.Stands.{AllReadable}
 
 -- a row stands at its path, with its own values

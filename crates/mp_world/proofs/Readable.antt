@@ -31,15 +31,16 @@ use Rattle.peer_laws.proofs.Each.{of_each}
 use Rattle.peer_laws.proofs.OwnValues.{own_row_there, spawned_there}
 use Rattle.peer_laws.proofs.FactsOf.{facts}
 use Rattle.peer_laws.proofs.TreeSpawns.{tree_spawn}
-use Rattle.spawn_track.specs.Rows.{kept_row, row_of_spawn}
-use Rattle.peer_core.specs.Kept.{Kept}
-use Rattle.spawn_track.specs.Judged.{spawn_judged}
-use Rattle.peer_core.specs.Judged.{up_judged}
-use Rattle.peer_core.specs.Stands.{StandsFor}
-use Rattle.peer_core.specs.Stands as peer_stands
-use Rattle.peer_core.specs.Steps.{packet_form, row_packet, open_rows, with_spawn, up_plains, spawn_plains, plains_of, plains_taken, IsReadablePlain, AllReadablePlains}
-use Rattle.peer_core.proofs.Judging.{spawn_judged_is}
-use Rattle.peer_core.proofs.Packets.{is_plain_row, rows_are_plain}
+use Rattle.peer_steps.specs.Rows.{kept_row, row_of_spawn}
+use Rattle.peer_steps.specs.Kept.{Kept}
+use Rattle.peer_steps.specs.Spawns.{spawn_judged}
+use Rattle.peer_steps.specs.Judged.{up_judged}
+use Rattle.peer_steps.specs.Stands.{StandsFor}
+use Rattle.peer_steps.specs.Stands as peer_stands
+use Rattle.peer_steps.specs.Steps.{row_packet, open_rows, with_spawn, up_plains, spawn_plains, plains_of, plains_taken, IsReadablePlain, AllReadablePlains}
+use Rattle.peer_core.specs.Forms.{packet_form}
+use Rattle.peer_steps.proofs.Judging.{spawn_judged_is}
+use Rattle.peer_steps.proofs.Packets.{is_plain_row, rows_are_plain}
 use Rattle.world_model.specs.World.{World, world, fed, happens, with_client, next_client, with_delivered, delivered_next, next_of, received}
 use Rattle.mp_world.specs.Steps.{Parts, Client, number_of, place_of, client_at, client_plains, plains_made}
 use Rattle.mp_world.specs.Stands.{HasParts, is_built_event, is_sound_op, is_sound_event}

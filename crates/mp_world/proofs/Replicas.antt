@@ -29,9 +29,9 @@ use Rattle.peer_laws.proofs.Heads.{changes_are_shows, shows_in}
 use Rattle.peer_laws.proofs.Replica.{in_view, never_seen}
 use Rattle.peer_laws.proofs.Told.{changes_never}
 use Rattle.peer_laws.proofs.Ups.{up_if_was_not, come_is_new}
-use Rattle.peer_core.specs.Steps.{packet_form}
-use Rattle.peer_core.proofs.Packets.{parcel_is}
-use Rattle.peer_core.proofs.Packets as packets
+use Rattle.peer_core.specs.Forms.{packet_form}
+use Rattle.peer_steps.proofs.Packets.{parcel_is}
+use Rattle.peer_steps.proofs.Packets as packets
 use Rattle.world_model.specs.World.{World, peer_of, is_in}
 use Rattle.world_model.specs.Replicas.{is_joined, is_delivered, is_quiet, is_direct, reads_change, arrived, accepted_at, replica}
 use Rattle.mp_world.specs.Steps.{Parts}

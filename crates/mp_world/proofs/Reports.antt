@@ -15,10 +15,10 @@ use Rattle.peer_model.specs.View.{view, own_live, own_values, values_seen, fixed
 use Rattle.peer_model.specs.Bytes.{accepted_events}
 use Rattle.peer_laws.proofs.Joined.{flat_each, map_each}
 use Rattle.peer_laws.proofs.Numbers.{int_is}
-use Rattle.peer_core.specs.Kept.{Kept}
-use Rattle.peer_core.specs.Stands.{StandsFor}
-use Rattle.peer_core.specs.Steps.{packet_form}
-use Rattle.peer_core.proofs.Clauses as clauses
+use Rattle.peer_steps.specs.Kept.{Kept}
+use Rattle.peer_steps.specs.Stands.{StandsFor}
+use Rattle.peer_core.specs.Forms.{packet_form}
+use Rattle.peer_steps.proofs.Clauses as clauses
 use Rattle.world_model.specs.World.{World, world, peer_of, is_in}
 use Rattle.world_model.specs.Replicas.{is_joined, accepted_at, replica, rows_at, fixed_at, reported}
 use Rattle.mp_world.specs.Steps.{Parts, Client, scene_of, number_of, place_of, client_at, has_peer, kept_at, kept_report}

@@ -6,7 +6,7 @@ use Rattle.scene_model.specs.declared.scene.Scene.{Scene}
 use Rattle.scene_model.specs.declared.world.WorldEvent.{WorldEvent}
 use Rattle.scene_model.specs.Valid.{IsValidScene}
 use Rattle.peer_model.specs.Heard.{server}
-use Rattle.peer_core.specs.Steps.{packet_form}
+use Rattle.peer_core.specs.Forms.{packet_form}
 use Rattle.world_model.specs.World.{world, happened}
 use Rattle.mp_world.specs.Steps.{Parts, scene_of, first_parts, made}
 use Rattle.mp_world.specs.Stands.{HasParts, Stands, is_built_event, is_sound_event}

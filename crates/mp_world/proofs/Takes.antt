@@ -13,9 +13,10 @@ use Rattle.scene_model.specs.declared.world.WorldOutcome.{WorldOutcome}
 use Rattle.scene_model.specs.declared.world.WorldOutcome.TheVariants as answers
 use Rattle.scene_model.specs.declared.world.WorldNo.TheVariants as refusal
 use Rattle.peer_model.specs.Heard.{server}
-use Rattle.peer_core.specs.Kept.{Kept}
+use Rattle.peer_steps.specs.Kept.{Kept}
 use Rattle.scene_model.specs.declared.scene.Scene.{Scene}
-use Rattle.peer_core.specs.Steps.{Taken, packet_form, taken}
+use Rattle.peer_steps.specs.Steps.{Taken, taken}
+use Rattle.peer_core.specs.Forms.{packet_form}
 use Rattle.world_model.specs.World.{packets_in, peer_answer, received}
 use Rattle.mp_world.specs.Steps.{Client, Parts, Made, live_parts, place_of, has_peer, new_client, new_peer, with_packets, with_client, unchanged, server_made, client_does, does_at, op_made, deliver_down, deliver_up, delivers_of, delivers_at, rel_made, IsTaken, number_of, client_made, waiting_with}
 use Rattle.mp_world.proofs.Places.{nothing_put, place_is, got_below}

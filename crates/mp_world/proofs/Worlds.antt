@@ -21,11 +21,12 @@ use Rattle.scene_model.specs.declared.world.WorldEvent.TheVariants.{Connect, Op,
 use Rattle.scene_model.specs.declared.world.WorldOutcome.TheVariants as answers
 use Rattle.scene_model.specs.declared.world.WorldNo.TheVariants as refusal
 use Rattle.peer_model.specs.Heard.{Who, server}
-use Rattle.peer_core.specs.Kept.{Kept}
-use Rattle.spawn_track.specs.Judged.{shown_judged}
-use Rattle.peer_core.specs.Judged.{link_judged}
-use Rattle.peer_core.specs.Steps.{packet_form, taken, shown_taken, message_taken, linked_taken, read_taken, spawn_read, is_done, AllReadablePlains}
-use Rattle.peer_core.proofs.Whole.{kept_still}
+use Rattle.peer_steps.specs.Kept.{Kept}
+use Rattle.peer_steps.specs.Spawns.{shown_judged}
+use Rattle.peer_steps.specs.Judged.{link_judged}
+use Rattle.peer_steps.specs.Steps.{taken, shown_taken, message_taken, linked_taken, read_taken, spawn_read, is_done, AllReadablePlains}
+use Rattle.peer_core.specs.Forms.{packet_form}
+use Rattle.peer_steps.proofs.Whole.{kept_still}
 use Rattle.world_model.specs.World.{World, world, happens, packets_in, peer_answer, world_answer, happened}
 use Rattle.mp_world.specs.Steps.{Parts, Made, Client, scene_of, number_of, new_peer, place_of, has_peer, waiting_with, with_packets, with_client, unchanged, connect_with, connect_made, server_made, client_made, client_does, does_at, op_made, deliver_down, deliver_up, delivers_of, delivers_at, rel_made, made, plains_made}
 use Rattle.mp_world.specs.Stands.{HasParts, Stands, is_built_event}

@@ -40,14 +40,15 @@ use Rattle.peer_laws.proofs.Homes.{maker}
 use Rattle.peer_laws.proofs.ShownRows.{node_named, some_again}
 use Rattle.peer_laws.proofs.Origins.{IsMade, every_made}
 use Rattle.peer_laws.proofs.Rows.{rows_come, rows_go, rows_set, rows_spawn, rows_receive}
-use Rattle.peer_core.specs.Steps.{packet_form, IsReadablePlain}
-use Rattle.spawn_track.specs.Rights.{is_right_value}
+use Rattle.peer_steps.specs.Steps.{IsReadablePlain}
+use Rattle.peer_core.specs.Forms.{packet_form}
+use Rattle.peer_steps.specs.Rights.{is_right_value}
 use Rattle.peer_core.proofs.Encodable.{IsShown, spawn_encodable, readable, name_short}
 use Rattle.mp_world.specs.Stands.{has_sound, is_sound_op}
 use Rattle.mp_world.proofs.SoundValues.{is_sound_heard, own_sound}
 use Rattle.mp_world.proofs.Places.{got_within}
-use Rattle.spawn_track.proofs.PlacesOf.{nodes_few}
-use Rattle.spawn_track.proofs.SpawnMade.{place_below}
+use Rattle.peer_steps.proofs.PlacesOf.{nodes_few}
+use Rattle.peer_steps.proofs.SpawnMade.{place_below}
 
 -- a valid scene has few nodes
 

@@ -7,7 +7,7 @@ use Rattle.peer_model.specs.Updates.{applied}
 use Rattle.peer_model.specs.Changes.{changes, numbers_of, live_numbers}
 use Rattle.peer_model.specs.Visible.{visible_rows}
 use Rattle.peer_model.specs.View.{view, report_of}
-use Rattle.peer_core.specs.Steps.{packet_form}
+use Rattle.peer_core.specs.Forms.{packet_form}
 use Rattle.world_model.specs.World.{World, world, world_answer, happened, peer_of}
 use Rattle.world_model.specs.Replicas.{is_joined, is_quiet, arrived, accepted_at, replica, reported}
 use Rattle.mp_world.specs.Stands.{is_built_event, is_sound_event}

@@ -18,9 +18,10 @@ use Rattle.peer_model.specs.View.{updates_from}
 use Rattle.peer_model.specs.Answer.{reliable, update_packet}
 use Rattle.peer_model.specs.Bytes.{PacketForm, out_of, accepted_events}
 use Rattle.peer_laws.specs.Built.{is_built_op}
-use Rattle.peer_core.specs.Rights.{is_sound_op as has_sound_op}
-use Rattle.peer_core.specs.Steps.{packet_form, IsReadablePlain}
-use Rattle.peer_core.specs.Stands.{StandsFor}
+use Rattle.peer_steps.specs.Sound.{is_sound_op as has_sound_op}
+use Rattle.peer_steps.specs.Steps.{IsReadablePlain}
+use Rattle.peer_core.specs.Forms.{packet_form}
+use Rattle.peer_steps.specs.Stands.{StandsFor}
 use Rattle.world_model.specs.World.{World, Way, world, peer_of}
 use Rattle.world_model.specs.Replicas.{accepted_at}
 use Rattle.mp_world.specs.Steps.{Parts, Client, scene_of, number_of, empty_way}

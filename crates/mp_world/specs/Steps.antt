@@ -16,8 +16,9 @@ use Rattle.scene_model.specs.declared.world.WorldNo.TheVariants as refusal
 use Rattle.scene_model.specs.declared.report.Report.{Report}
 use Rattle.peer_model.specs.Heard.{server}
 use Rattle.peer_model.specs.View.{row_of}
-use Rattle.peer_core.specs.Kept.{Kept}
-use Rattle.peer_core.specs.Steps.{Taken, packet_form, taken, plains_taken}
+use Rattle.peer_steps.specs.Kept.{Kept}
+use Rattle.peer_steps.specs.Steps.{Taken, taken, plains_taken}
+use Rattle.peer_core.specs.Forms.{packet_form}
 use Rattle.headless_tree.specs.Nodes.{fixed_nodes}
 use Rattle.world_model.specs.World.{Way, packets_in, effects_in, step_of, peer_answer, most_clients}
 

@@ -3,7 +3,8 @@ ghost use Rattle.std.specs.Prelude.{◌≡◌, ◌∷◌, ◌++◌, [], ◌≤�
 ghost use Rattle.scene_model.specs.Valid.{IsValidScene};
 ghost use Rattle.scene_model.specs.declared.event.Event.TheVariants as event_of;
 ghost use Rattle.peer_model.specs.Heard.{server as server_id};
-ghost use Rattle.peer_core.specs.Steps.{packet_form, taken};
+ghost use Rattle.peer_steps.specs.Steps.{taken};
+ghost use Rattle.peer_core.specs.Forms.{packet_form};
 ghost use Rattle.world_model.specs.World.{effects_in, packets_in, step_of};
 ghost use Rattle.mp_world.specs.Steps.{connect_made, live_parts, new_client as client_made_of, new_peer, number_of, with_packets};
 

@@ -2,7 +2,7 @@
 ghost use Rattle.std.specs.Prelude.{◌≡◌, ℕ, Some, ◌<◌, ◌&&◌, ◌||◌, not, true, false, length, slice_get, IfOk};
 ghost use Rattle.std.specs.Ordering.{int_eq};
 ghost use Rattle.peer_model.specs.Heard.{server as server_id};
-ghost use Rattle.peer_core.specs.Kept.{Kept};
+ghost use Rattle.peer_steps.specs.Kept.{Kept};
 ghost use Rattle.mp_world.specs.Steps.{IsTaken, Parts as PartsOf, deliver_down, delivers_at, has_peer, live_parts, number_of, place_of as place_with, rel_made, with_client};
 
 use crate::client::{Client, client_place};

@@ -1,9 +1,9 @@
 //! Operations of peers.
 ghost use Rattle.std.specs.Prelude.{◌≡◌, true, IfOk, OnOk};
 ghost use Rattle.peer_laws.specs.Built.{is_built_op};
-ghost use Rattle.peer_core.specs.Kept.{Kept};
-ghost use Rattle.peer_core.specs.Rights.{is_sound_op};
-ghost use Rattle.peer_core.specs.Steps.{packet_form};
+ghost use Rattle.peer_steps.specs.Kept.{Kept};
+ghost use Rattle.peer_steps.specs.Sound.{is_sound_op};
+ghost use Rattle.peer_core.specs.Forms.{packet_form};
 ghost use Rattle.scene_model.specs.declared.event.Event.TheVariants as event_of;
 ghost use Rattle.scene_model.specs.declared.world.WorldEvent.TheVariants as world_event;
 ghost use Rattle.mp_world.specs.Steps.{client_at, does_at, live_parts, op_made, place_of as place_with};

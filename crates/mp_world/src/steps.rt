@@ -3,9 +3,10 @@ ghost use Rattle.std.specs.Prelude.{◌≡◌, ◌++◌, true, IfOk, OnOk, filte
 ghost use Rattle.std.specs.Ordering.{int_eq};
 ghost use Rattle.scene_model.specs.declared.outcome.Out.{Out as OutOf};
 ghost use Rattle.peer_model.specs.Heard.{server as server_id};
-ghost use Rattle.peer_core.specs.Rights.{is_sound_event};
-ghost use Rattle.peer_core.specs.Stands.{is_built_event};
-ghost use Rattle.peer_core.specs.Steps.{packet_form, taken};
+ghost use Rattle.peer_steps.specs.Sound.{is_sound_event};
+ghost use Rattle.peer_steps.specs.Stands.{is_built_event};
+ghost use Rattle.peer_steps.specs.Steps.{taken};
+ghost use Rattle.peer_core.specs.Forms.{packet_form};
 ghost use Rattle.world_model.specs.World.{effects_in, packets_in, peer_answer};
 ghost use Rattle.mp_world.specs.Steps.{waiting_with, with_packets};
 

@@ -2,7 +2,7 @@
 ghost use Rattle.std.specs.Prelude.{◌≡◌, ◌≢◌, ◌∷◌, [], List, true, false, ◌↔◌, IfOk, OnOk, OnErr, Err, Some, option_map};
 ghost use Rattle.scene_model.specs.declared.world.WorldEvent.{WorldEvent as EventOf};
 ghost use Rattle.scene_model.specs.Valid.{IsValidScene};
-ghost use Rattle.peer_core.specs.Steps.{packet_form};
+ghost use Rattle.peer_core.specs.Forms.{packet_form};
 ghost use Rattle.world_model.specs.World.{happened, is_in, world, world_answer};
 ghost use Rattle.world_model.specs.Replicas.{reported};
 ghost use Rattle.mp_world.specs.declared.world.WorldStop.TheVariants as stop;

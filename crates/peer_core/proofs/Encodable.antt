@@ -29,9 +29,10 @@ use Rattle.peer_model.specs.View.{fits}
 use Rattle.headless_tree.specs.Nodes.{value_at}
 use Rattle.peer_laws.specs.Shown.{values_in}
 use Rattle.peer_laws.proofs.Places.{all_found}
-use Rattle.spawn_track.specs.declared.rows.SpawnedRow.{SpawnedRow}
-use Rattle.spawn_track.specs.Rights.{is_right_value, has_right_values, is_right_row}
-use Rattle.peer_core.specs.Steps.{packet_form, row_packet}
+use Rattle.peer_steps.specs.declared.rows.SpawnedRow.{SpawnedRow}
+use Rattle.peer_steps.specs.Rights.{is_right_value, has_right_values, is_right_row}
+use Rattle.peer_steps.specs.Steps.{row_packet}
+use Rattle.peer_core.specs.Forms.{packet_form}
 use Rattle.peer_core.proofs.SpawnProps.{few_at}
 
 -- values

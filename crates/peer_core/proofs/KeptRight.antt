@@ -19,25 +19,18 @@ use Rattle.peer_laws.proofs.Numbers.{int_same, int_is, int_comm}
 use Rattle.peer_model.specs.Rows.{count_from, syncs_at, spawned_scene}
 use Rattle.scene_model.specs.declared.event.SpawnOp.{SpawnOp}
 use Rattle.peer_core.specs.declared.links.Link.{Link}
-use Rattle.spawn_track.specs.declared.rows.SpawnedRow.{SpawnedRow}
+use Rattle.peer_steps.specs.declared.rows.SpawnedRow.{SpawnedRow}
 use Rattle.peer_core.specs.Links.{new_link, link_before, is_other, raised}
-use Rattle.spawn_track.specs.declared.spawning.Site.{Site}
-use Rattle.spawn_track.specs.Rows.{row_of_spawn}
-use Rattle.spawn_track.specs.Sites.{MaySpawn, who_at, own_made, with_made, after_made}
-use Rattle.spawn_track.proofs.SpawnMade.{spawn_values, spawn_row_right}
-use Rattle.spawn_track.specs.Rights.{is_right_value, has_right_values, is_right_row, is_before}
+use Rattle.peer_steps.specs.declared.site.Site.{Site}
+use Rattle.peer_steps.specs.Rows.{row_of_spawn}
+use Rattle.peer_steps.specs.Sites.{MaySpawn, who_at, own_made, with_made, after_made}
+use Rattle.peer_steps.proofs.SpawnMade.{spawn_values, spawn_row_right}
+use Rattle.peer_steps.specs.Rights.{is_right_value, has_right_values, is_right_row, is_before}
 use Rattle.peer_core.specs.Rights.{is_counted, has_come, is_known, AreRight}
 use Rattle.headless_tree.proofs.Order.{all_weaker}
+use Rattle.peer_steps.proofs.Packets.{or_true, or_left}
 
 -- lists
-
-pub or_true : (a b : Bool) → b ≡ true → (a || b) ≡ true
-or_true true b h = refl
-or_true false b h = h
-
-pub or_left : (a b : Bool) → a ≡ true → (a || b) ≡ true
-or_left true b h = refl
-or_left false b h = absurd (cc h)
 
 all_change : {X : Type 0} (p test : X → Bool) (f : X → X) → ((x : X) → p x ≡ true → p (f x) ≡ true) → (xs : List X) → list_all p xs ≡ true → list_all p (change_first test f xs) ≡ true
 all_change {X} p test f k [] h = refl

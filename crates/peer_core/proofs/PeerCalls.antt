@@ -12,16 +12,17 @@ use Rattle.headless_tree.specs.Nodes.{TreeOf, fixed_nodes}
 use Rattle.peer_laws.proofs.Each.{all_each}
 use Rattle.peer_laws.proofs.Scenes.{all_right, nodes_right, right_node}
 use Rattle.peer_core.specs.declared.links.Link.{Link}
-use Rattle.spawn_track.specs.declared.rows.SpawnedRow.{SpawnedRow}
-use Rattle.peer_core.specs.Kept.{Kept}
+use Rattle.peer_steps.specs.declared.rows.SpawnedRow.{SpawnedRow}
+use Rattle.peer_steps.specs.Kept.{Kept}
 use Rattle.peer_core.specs.Links.{peers_of}
 use Rattle.peer_core.specs.Parts.{parts_kept, kept_of}
-use Rattle.spawn_track.specs.Rights.{has_right_values, are_right, is_before}
+use Rattle.peer_steps.specs.Rights.{has_right_values, are_right, is_before}
 use Rattle.peer_core.specs.Rights.{is_known, AreRight}
-use Rattle.peer_core.specs.Stands.{StandsFor}
-use Rattle.peer_core.specs.Steps.{Taken, packet_form, taken}
-use Rattle.spawn_track.proofs.SpawnMade.{none_long}
-use Rattle.peer_core.proofs.Clauses.{start_stands}
+use Rattle.peer_steps.specs.Stands.{StandsFor}
+use Rattle.peer_steps.specs.Steps.{Taken, taken}
+use Rattle.peer_core.specs.Forms.{packet_form}
+use Rattle.peer_steps.proofs.SpawnMade.{none_long}
+use Rattle.peer_steps.proofs.Clauses.{start_stands}
 
 -- a step by the parts of a peer that isn't spent is one of that peer
 pub step_made : (id : ℤ) (spent : Bool) (come after : List ℤ) (links more : List Link) (t new : TreeOf) (next later : ℕ) (rows made : List SpawnedRow) (k : Kept) (e : Event) (o : Outcome)

@@ -15,17 +15,17 @@ use Rattle.peer_model.specs.Heard.{Who}
 use Rattle.peer_model.specs.Updates.{Live, shown_node}
 use Rattle.headless_tree.specs.Nodes.{TreeOf, row_before}
 use Rattle.peer_core.specs.declared.links.Link.{Link}
-use Rattle.spawn_track.specs.declared.rows.SpawnedRow.{SpawnedRow}
-use Rattle.spawn_track.specs.declared.shown.Making.{Making}
-use Rattle.peer_core.specs.Kept.{Kept}
+use Rattle.peer_steps.specs.declared.rows.SpawnedRow.{SpawnedRow}
+use Rattle.peer_steps.specs.declared.making.Making.{Making}
+use Rattle.peer_steps.specs.Kept.{Kept}
 use Rattle.peer_core.specs.Links.{peers_of}
 use Rattle.peer_core.specs.Rights.{is_counted}
-use Rattle.spawn_track.specs.Judged.{shown_judged}
-use Rattle.peer_core.specs.Steps.{Taken, done_with, shown_taken, spawn_read, message_taken, linked_taken, read_taken}
-use Rattle.spawn_track.specs.Arrivals.{IsMaking, judged_beside}
+use Rattle.peer_steps.specs.Spawns.{shown_judged}
+use Rattle.peer_steps.specs.Steps.{Taken, done_with, shown_taken, spawn_read, message_taken, linked_taken, read_taken}
+use Rattle.peer_steps.specs.Arrivals.{IsMaking, judged_beside}
 use Rattle.peer_core.specs.Arrivals.{rows_counted, with_row, link_judged_at}
 use Rattle.peer_core.specs.Parts.{parts_kept}
-use Rattle.spawn_track.proofs.Admitted.{judged_is}
+use Rattle.peer_steps.proofs.Admitted.{judged_is}
 use Rattle.peer_core.proofs.Counted.{counted_is, same_peers}
 
 -- what a link counts judges as the rows do

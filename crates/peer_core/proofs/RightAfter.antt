@@ -21,14 +21,15 @@ use Rattle.peer_laws.proofs.Each.{all-put_by, all_both, all_has}
 use Rattle.peer_laws.proofs.Numbers.{int_is}
 use Rattle.peer_laws.proofs.Scenes.{shown_is_placed}
 use Rattle.peer_core.specs.declared.links.Link.{Link}
-use Rattle.spawn_track.specs.declared.rows.SpawnedRow.{SpawnedRow}
+use Rattle.peer_steps.specs.declared.rows.SpawnedRow.{SpawnedRow}
 use Rattle.peer_core.specs.Links.{peers_of}
-use Rattle.spawn_track.specs.Rights.{is_right_value, are_right, has_right_values, is_before}
+use Rattle.peer_steps.specs.Rights.{is_right_value, are_right, has_right_values, is_before}
 use Rattle.peer_core.specs.Rights.{AreRight, is_known, has_come}
-use Rattle.peer_core.specs.Arrivals.{is_sound_argument, is_sound_spawn, with_row}
-use Rattle.spawn_track.proofs.Admitted.{IsAdmitted, values_short, argument_short}
+use Rattle.peer_core.specs.Arrivals.{with_row}
+use Rattle.peer_steps.specs.Sound.{is_sound_argument, is_sound_spawn}
+use Rattle.peer_steps.proofs.Admitted.{IsAdmitted, values_short, argument_short}
 use Rattle.peer_core.proofs.Counted.{row_peer, still_counted}
-use Rattle.spawn_track.proofs.SpawnMade.{defaults_right, assign_right}
+use Rattle.peer_steps.proofs.SpawnMade.{defaults_right, assign_right}
 use Rattle.headless_tree.proofs.Order.{all_weaker}
 
 -- values

@@ -22,7 +22,7 @@ use Rattle.packet_codec.specs.Grammar.{IsValue, IsArgFor, IsCall, IsSpawn, IsPla
 use Rattle.packet_codec.specs.Reading.{is_offset, offset_fits}
 use Rattle.packet_codec.specs.Wholes.{Fitting, Region, Chosen}
 use Rattle.packet_codec.specs.Packets.{Frames}
-use Rattle.peer_core.specs.Arrivals.{is_sound_argument, is_sound_message}
+use Rattle.peer_steps.specs.Sound.{is_sound_argument, is_sound_message}
 
 -- what stands in at most as many bytes as a packet has passes a test
 record AllPass {X : Type 0} (p : X → Bool) (R : Relation X) : Type 0 where

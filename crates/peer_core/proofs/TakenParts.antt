@@ -26,19 +26,20 @@ use Rattle.peer_model.specs.View.{fits}
 use Rattle.headless_tree.specs.Nodes.{TreeOf, without_rows}
 use Rattle.peer_laws.proofs.Tests.{no_row, not_false}
 use Rattle.peer_core.specs.declared.links.Link.{Link}
-use Rattle.spawn_track.specs.declared.rows.SpawnedRow.{SpawnedRow}
-use Rattle.spawn_track.specs.declared.spawning.Site.{Site}
+use Rattle.peer_steps.specs.declared.rows.SpawnedRow.{SpawnedRow}
+use Rattle.peer_steps.specs.declared.site.Site.{Site}
 use Rattle.peer_core.specs.Links.{peers_of, new_link, link_before, is_other, is_bad_at, up_judged_at}
-use Rattle.spawn_track.specs.Judged.{spawn_judged}
-use Rattle.peer_core.specs.Judged.{down_judged, set_judged}
-use Rattle.peer_core.specs.Calls.{set_nodes}
-use Rattle.spawn_track.specs.Rights.{is_right_value, has_right_values, is_before}
+use Rattle.peer_steps.specs.Spawns.{spawn_judged}
+use Rattle.peer_steps.specs.Judged.{down_judged, set_judged}
+use Rattle.peer_steps.specs.Calls.{set_nodes}
+use Rattle.peer_steps.specs.Rights.{is_right_value, has_right_values, is_before}
 use Rattle.peer_core.specs.Rights.{AreRight}
-use Rattle.spawn_track.specs.Sites.{IsSite, MaySpawn, who_at, own_made, with_made, after_made, has_short}
+use Rattle.peer_steps.specs.Sites.{IsSite, MaySpawn, who_at, own_made, with_made, after_made, has_short}
 use Rattle.peer_core.specs.Parts.{kept_of}
-use Rattle.peer_core.specs.Steps.{Taken, packet_form, done_with, row_packet, sent_to, open_rows, taken, op_taken, up_taken, down_taken, set_taken}
+use Rattle.peer_steps.specs.Steps.{Taken, done_with, row_packet, sent_to, open_rows, taken, op_taken, up_taken, down_taken, set_taken}
+use Rattle.peer_core.specs.Forms.{packet_form}
 use Rattle.peer_core.proofs.KeptRight.{right_up, right_down, right_set, right_spawn, all_two}
-use Rattle.spawn_track.proofs.SpawnMade.{welcome}
+use Rattle.peer_steps.proofs.SpawnMade.{welcome}
 
 -- links
 

@@ -1,18 +1,12 @@
--- The parts of why a received spawn is a fault, and what it makes here.
-use Rattle.std.specs.Prelude.{ℕ, ◌+◌, ℤ, Bool, true, not, ◌&&◌, ◌||◌, cond, List, find, Option, Some, None, option_map, nat_lt}
-use Rattle.std.specs.List.{list_all}
+-- Rows counted at links, and why no packet is taken from one.
+use Rattle.std.specs.Prelude.{ℕ, ◌+◌, ℤ, Bool, true, not, ◌&&◌, ◌||◌, cond, List, find, Option, option_map, nat_lt}
 use Rattle.std.specs.Ordering.{int_eq}
 use Rattle.gd_variant.specs.Words.{has_int, when, or_else}
-use Rattle.gd_variant.specs.Sound.{is_sound}
-use Rattle.gd_variant.specs.declared.message.Message.{Message}
-use Rattle.gd_variant.specs.declared.value.Variant.{Variant}
-use Rattle.scene_model.specs.declared.spawn.SpawnMsg.{SpawnMsg}
 use Rattle.scene_model.specs.declared.outcome.Fault.{Fault}
 use Rattle.scene_model.specs.declared.outcome.Fault.TheVariants as fault
 use Rattle.peer_model.specs.Heard.{server}
 use Rattle.peer_model.specs.Refusals.{most_rows}
 use Rattle.peer_core.specs.declared.links.Link.{Link}
-use Rattle.peer_core.specs.Steps.{spawn_read}
 
 -- how many rows a peer's link counts
 abbrev pub rows_counted : ℤ → List Link → ℕ
@@ -29,21 +23,3 @@ has_room c l = cond (int_eq c l.peer) (nat_lt l.rows most_rows) true
 -- why no packet is taken from a link at the peer with this number
 abbrev pub link_judged_at : ℤ → List ℤ → ℤ → Option Fault
 link_judged_at id up from = when (not (has_int from up) || (not (int_eq id server) && not (int_eq from server))) (fault.UnknownPeer from)
-
--- whether an argument is sound, where there is one
-abbrev pub is_sound_argument : Option Variant → Bool
-is_sound_argument None = true
-is_sound_argument (Some v) = is_sound v
-
--- whether the values of a spawn are sound
-abbrev pub is_sound_spawn : SpawnMsg → Bool
-is_sound_spawn m = is_sound_argument m.arg && list_all is_sound m.values
-
--- the same, where there is a spawn
-abbrev pub is_sound_read : Option SpawnMsg → Bool
-is_sound_read None = true
-is_sound_read (Some m) = is_sound_spawn m
-
--- whether the values of a message are sound, where it is a spawn
-abbrev pub is_sound_message : Message → Bool
-is_sound_message m = is_sound_read (spawn_read m)

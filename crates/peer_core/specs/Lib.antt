@@ -1,9 +1,5 @@
-pub mod Kept
-pub mod Judged
-pub mod Steps
-pub mod Stands
 pub mod Links
-pub mod Calls
 pub mod Rights
 pub mod Parts
 pub mod Arrivals
+pub mod Forms

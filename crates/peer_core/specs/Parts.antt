@@ -2,8 +2,8 @@
 use Rattle.std.specs.Prelude.{ℕ, ℤ, Bool, false, List}
 use Rattle.headless_tree.specs.Nodes.{TreeOf}
 use Rattle.peer_core.specs.declared.links.Link.{Link}
-use Rattle.spawn_track.specs.declared.rows.SpawnedRow.{SpawnedRow}
-use Rattle.peer_core.specs.Kept.{Kept}
+use Rattle.peer_steps.specs.declared.rows.SpawnedRow.{SpawnedRow}
+use Rattle.peer_steps.specs.Kept.{Kept}
 use Rattle.peer_core.specs.Links.{peers_of}
 
 -- what a peer with these parts keeps

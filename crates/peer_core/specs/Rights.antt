@@ -3,19 +3,13 @@ use Rattle.std.specs.Prelude.{◌≡◌, ℕ, ℤ, Bool, true, false, not, ◌||
 use Rattle.std.specs.List.{list_all}
 use Rattle.std.specs.Ordering.{int_eq}
 use Rattle.gd_variant.specs.Words.{has_int}
-use Rattle.gd_variant.specs.Sound.{is_sound}
-use Rattle.scene_model.specs.declared.scene.Prop.{Prop}
-use Rattle.scene_model.specs.declared.event.Op.{Op}
-use Rattle.scene_model.specs.declared.event.Op.TheVariants.{Spawn, Set}
-use Rattle.scene_model.specs.declared.event.Event.{Event}
-use Rattle.scene_model.specs.declared.event.Event.TheVariants.{Op as Operation}
 use Rattle.scene_model.specs.Valid.{IsValidScene}
 use Rattle.peer_model.specs.Updates.{Live}
 use Rattle.headless_tree.specs.Nodes.{TreeOf, is_spawned}
 use Rattle.peer_laws.specs.Facts.{rows_under}
-use Rattle.spawn_track.specs.Rights.{has_right_values, is_right_row, is_before}
+use Rattle.peer_steps.specs.Rights.{has_right_values, is_right_row, is_before}
 use Rattle.peer_core.specs.declared.links.Link.{Link}
-use Rattle.spawn_track.specs.declared.rows.SpawnedRow.{SpawnedRow}
+use Rattle.peer_steps.specs.declared.rows.SpawnedRow.{SpawnedRow}
 
 -- a link counts the rows of its peer
 abbrev pub is_counted : List Live → Link → Bool
@@ -39,14 +33,3 @@ pub record AreRight (id : ℤ) (come : List ℤ) (links : List Link) (tree : Tre
   pub other : has_int id come ≡ false
   pub known : list_all (is_known id come) tree.nodes ≡ true
   pub before : list_all (is_before id next) tree.nodes ≡ true
-
--- whether the values of an operation are sound
-abbrev pub is_sound_op : Op → Bool
-is_sound_op (Spawn o) = list_all (λ (p : Prop). is_sound p.value) o.sets
-is_sound_op (Set path prop value) = is_sound value
-is_sound_op op = true
-
--- the same of an event
-abbrev pub is_sound_event : Event → Bool
-is_sound_event (Operation op) = is_sound_op op
-is_sound_event e = true

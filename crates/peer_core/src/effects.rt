@@ -1,6 +1,6 @@
 //! What an accepted event does.
 ghost use Rattle.std.specs.Prelude.{◌≡◌};
-ghost use Rattle.peer_core.specs.Steps.{done_with};
+ghost use Rattle.peer_steps.specs.Steps.{done_with};
 
 use scene_model::{Effects, OutList, Outcome};
 use sqlite_items::Items;

@@ -5,7 +5,7 @@ ghost use Rattle.std.specs.Ordering.{int_eq};
 ghost use Rattle.gd_variant.specs.Words.{has_int, put_by};
 ghost use Rattle.peer_core.specs.declared.links.Link.{Link as LinkOf};
 ghost use Rattle.peer_core.specs.Links.{new_link, peers_of, link_before, is_other, is_bad_at, up_judged_at};
-ghost use Rattle.peer_core.specs.Judged.{down_judged};
+ghost use Rattle.peer_steps.specs.Judged.{down_judged};
 
 use gd_variant::OutOfMemory;
 use indexmap::IndexSet;

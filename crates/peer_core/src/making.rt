@@ -1,16 +1,17 @@
 //! Spawns of this peer: their rows, their nodes and their packets.
 ghost use Rattle.std.specs.Prelude.{◌≡◌, ◌+◌, ◌++◌, [], ◌∷◌, IfOk, OnOk};
-ghost use Rattle.spawn_track.specs.Sites.{MaySpawn, who_at, own_made, with_made, after_made};
-ghost use Rattle.peer_core.specs.Steps.{packet_form};
+ghost use Rattle.peer_steps.specs.Sites.{MaySpawn, who_at, own_made, with_made, after_made};
+ghost use Rattle.peer_core.specs.Forms.{packet_form};
 ghost use Rattle.peer_core.specs.Links.{peers_of};
-ghost use Rattle.peer_core.specs.Calls.{shown_to_each};
+ghost use Rattle.peer_steps.specs.Calls.{shown_to_each};
 
 use crate::links::Link;
 use crate::sending::show_to_each;
 use gd_variant::OutOfMemory;
 use headless_tree::Tree;
+use peer_steps::{Site, SpawnedRow};
 use scene_model::{OutList, SpawnOp};
-use spawn_track::{Site, SpawnedRow, add_row};
+use spawn_track::add_row;
 use std::alloc::Global;
 
 /// Makes a spawn that isn't refused: its row, its node, and the packets that show it.

@@ -9,11 +9,13 @@ ghost use Rattle.peer_model.specs.Bytes.{accepted_events};
 ghost use Rattle.headless_tree.specs.Nodes.{fixed_nodes};
 ghost use Rattle.peer_laws.specs.Built.{is_built_op};
 ghost use Rattle.peer_core.specs.declared.peer.Stop.TheVariants as stop;
-ghost use Rattle.spawn_track.specs.Rights.{has_right_values, is_before};
-ghost use Rattle.peer_core.specs.Rights.{AreRight, is_sound_op, is_sound_event};
+ghost use Rattle.peer_steps.specs.Rights.{has_right_values, is_before};
+ghost use Rattle.peer_core.specs.Rights.{AreRight};
+ghost use Rattle.peer_steps.specs.Sound.{is_sound_op, is_sound_event};
 ghost use Rattle.peer_core.specs.Parts.{kept_of};
-ghost use Rattle.peer_core.specs.Stands.{StandsFor, is_built_event, is_answered, built_answer};
-ghost use Rattle.peer_core.specs.Steps.{packet_form, taken, is_done};
+ghost use Rattle.peer_steps.specs.Stands.{StandsFor, is_built_event, is_answered, built_answer};
+ghost use Rattle.peer_steps.specs.Steps.{taken, is_done};
+ghost use Rattle.peer_core.specs.Forms.{packet_form};
 
 use crate::links::Link;
 use crate::receiving::take_packet;
@@ -22,8 +24,8 @@ use crate::taking::{take_down, take_set, take_spawn, take_up};
 use gd_variant::OutOfMemory;
 use headless_tree::Tree;
 use indexmap::IndexSet;
+use peer_steps::SpawnedRow;
 use scene_model::{Event, Op, Outcome, Refusal, Report, Scene};
-use spawn_track::SpawnedRow;
 use std::alloc::Global;
 use std::marker::Model;
 
@@ -138,7 +140,7 @@ impl Model for Peer {
     ghost use Rattle.std.specs.Prelude.{◌≡◌, false};
     ghost use Rattle.std.specs.Coded.{codes};
     ghost use Rattle.gd_variant.specs.contracts.value.Variant as variant;
-    ghost use Rattle.peer_core.specs.Kept.{Kept};
+    ghost use Rattle.peer_steps.specs.Kept.{Kept};
     ghost use Rattle.peer_core.specs.Parts.{parts_kept};
     ghost use Rattle.peer_core.specs.Rights.{AreRight};
 

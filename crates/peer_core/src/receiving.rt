@@ -7,12 +7,13 @@ ghost use Rattle.gd_variant.specs.Words.{has_int};
 ghost use Rattle.scene_model.specs.Valid.{IsValidScene};
 ghost use Rattle.packet_codec.specs.Packets.{read_packet};
 ghost use Rattle.peer_core.specs.declared.links.Link.{Link as LinkOf};
-ghost use Rattle.spawn_track.specs.declared.rows.SpawnedRow.{SpawnedRow as RowOf};
+ghost use Rattle.peer_steps.specs.declared.rows.SpawnedRow.{SpawnedRow as RowOf};
 ghost use Rattle.peer_core.specs.Links.{peers_of};
 ghost use Rattle.peer_core.specs.Rights.{is_counted, AreRight};
-ghost use Rattle.spawn_track.specs.Judged.{shown_judged};
-ghost use Rattle.peer_core.specs.Steps.{spawn_read, read_taken, linked_taken, shown_taken};
-ghost use Rattle.peer_core.specs.Arrivals.{link_judged_at, is_sound_spawn, is_sound_message, rows_counted, with_row, has_room};
+ghost use Rattle.peer_steps.specs.Spawns.{shown_judged};
+ghost use Rattle.peer_steps.specs.Steps.{spawn_read, read_taken, linked_taken, shown_taken};
+ghost use Rattle.peer_core.specs.Arrivals.{link_judged_at, rows_counted, with_row, has_room};
+ghost use Rattle.peer_steps.specs.Sound.{is_sound_spawn, is_sound_message};
 ghost use Rattle.peer_core.specs.Parts.{parts_kept};
 
 use crate::effects::done;

@@ -12,16 +12,18 @@ ghost use Rattle.peer_model.specs.Updates.{all_spawn_props};
 ghost use Rattle.headless_tree.specs.Nodes.{value_at};
 ghost use Rattle.peer_laws.specs.Shown.{values_in};
 ghost use Rattle.peer_core.specs.Links.{peers_of};
-ghost use Rattle.spawn_track.specs.Rights.{has_right_values, is_right_row};
-ghost use Rattle.peer_core.specs.Steps.{packet_form, row_packet, sent_to, open_rows};
-ghost use Rattle.peer_core.specs.Calls.{shown_to_each};
+ghost use Rattle.peer_steps.specs.Rights.{has_right_values, is_right_row};
+ghost use Rattle.peer_steps.specs.Steps.{row_packet, sent_to, open_rows};
+ghost use Rattle.peer_core.specs.Forms.{packet_form};
+ghost use Rattle.peer_steps.specs.Calls.{shown_to_each};
 
 use crate::links::Link;
 use gd_variant::{Bytes, Message, OutOfMemory, Plain, Text, ValueList, Variant};
 use headless_tree::Tree;
 use packet_codec::encode_packet;
+use peer_steps::SpawnedRow;
 use scene_model::{Class, Out, OutList, SyncDef};
-use spawn_track::{SpawnedRow, is_open, path_id, syncs_of};
+use spawn_track::{is_open, path_id, syncs_of};
 use sqlite_items::Items;
 use std::alloc::Global;
 

@@ -7,12 +7,13 @@ ghost use Rattle.scene_model.specs.declared.event.Op.TheVariants.{Spawn as spawn
 ghost use Rattle.scene_model.specs.declared.scene.Prop.{Prop as PropOf};
 ghost use Rattle.scene_model.specs.Valid.{IsValidScene};
 ghost use Rattle.headless_tree.specs.Nodes.{without_rows};
-ghost use Rattle.spawn_track.specs.declared.rows.SpawnedRow.{SpawnedRow as RowOf};
+ghost use Rattle.peer_steps.specs.declared.rows.SpawnedRow.{SpawnedRow as RowOf};
 ghost use Rattle.peer_core.specs.declared.links.Link.{Link as LinkOf};
-ghost use Rattle.spawn_track.specs.Rights.{has_right_values, is_right_row, is_before};
+ghost use Rattle.peer_steps.specs.Rights.{has_right_values, is_right_row, is_before};
 ghost use Rattle.peer_core.specs.Rights.{AreRight};
 ghost use Rattle.peer_core.specs.Parts.{kept_of};
-ghost use Rattle.peer_core.specs.Steps.{packet_form, taken, op_taken};
+ghost use Rattle.peer_steps.specs.Steps.{taken, op_taken};
+ghost use Rattle.peer_core.specs.Forms.{packet_form};
 
 use crate::effects::done;
 use crate::links::{Link, drop_link, judge_down, judge_up, note_come, put_link};
@@ -22,8 +23,9 @@ use crate::setting::set;
 use gd_variant::{OutOfMemory, Text, Variant};
 use headless_tree::Tree;
 use indexmap::IndexSet;
+use peer_steps::SpawnedRow;
 use scene_model::{Op, Outcome, Refusal, SpawnOp};
-use spawn_track::{SpawnedRow, judge_spawn, site_of};
+use spawn_track::{judge_spawn, site_of};
 use sqlite_items::Items;
 use std::alloc::Global;
 

@@ -3,13 +3,13 @@ ghost use Rattle.std.specs.Prelude.{◌≡◌, ◌<◌, ◌≤◌, ◌+◌, true
 ghost use Rattle.std.specs.List.{list_all};
 ghost use Rattle.gd_variant.specs.Words.{or_else};
 ghost use Rattle.peer_model.specs.Rows.{syncs_at, count_from};
-ghost use Rattle.spawn_track.specs.Sites.{MaySpawn, who_at, own_made, with_made, site_row, has_short, with_settings};
+ghost use Rattle.peer_steps.specs.Sites.{MaySpawn, who_at, own_made, with_made, site_row, has_short, with_settings};
 
 use crate::placing::{put_node, put_value};
-use crate::rows::SpawnedRow;
-use crate::spawning::{Site, syncs_at_place};
+use crate::spawning::syncs_at_place;
 use gd_variant::{IdList, OutOfMemory, Text};
 use headless_tree::Tree;
+use peer_steps::{Site, SpawnedRow};
 use scene_model::{Prop, Scene, SpawnOp, SyncDef};
 use sqlite_items::Items;
 use std::alloc::Global;

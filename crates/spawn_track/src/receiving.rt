@@ -8,14 +8,15 @@ ghost use Rattle.peer_model.specs.View.{fits as fits_of};
 ghost use Rattle.peer_model.specs.Rows.{syncs_at};
 ghost use Rattle.peer_model.specs.Refusals.{argument_fits};
 ghost use Rattle.headless_tree.specs.Nodes.{row_before};
-ghost use Rattle.spawn_track.specs.Judged.{shown_judged};
-ghost use Rattle.spawn_track.specs.Arrivals.{IsMaking, judged_beside, place_judged, assigned_all, argument_assigned};
+ghost use Rattle.peer_steps.specs.Spawns.{shown_judged};
+ghost use Rattle.peer_steps.specs.Arrivals.{IsMaking, judged_beside, place_judged, assigned_all, argument_assigned};
 
 use crate::lookup::syncs_of;
 use crate::placing::{put_node, put_value};
-use crate::shown::{Making, judge_ids, judge_place, meaning, plan};
+use crate::shown::{judge_ids, judge_place, meaning, plan};
 use gd_variant::{OutOfMemory, Text, ValueList, Variant};
 use headless_tree::Tree;
+use peer_steps::Making;
 use scene_model::{Fault, SpawnMsg};
 use std::alloc::Global;
 

@@ -12,7 +12,7 @@ ghost use Rattle.peer_model.specs.Faults.{bad_id, known_ids, first_known, all_fi
 ghost use Rattle.peer_model.specs.View.{fits as fits_of};
 ghost use Rattle.headless_tree.specs.Numbers.{has_number};
 ghost use Rattle.peer_laws.specs.Facts.{rows_under};
-ghost use Rattle.spawn_track.specs.Arrivals.{meaning_judged, ids_judged, place_judged, IsMaking};
+ghost use Rattle.peer_steps.specs.Arrivals.{meaning_judged, ids_judged, place_judged, IsMaking};
 
 use crate::lookup::{scene_place, spawner_of, syncs_of};
 use crate::spawning::{CUSTOM_BYTE, MOST_ROWS};
@@ -21,23 +21,13 @@ use crate::values::fits;
 use gd_variant::{OutOfMemory, Text, TextRun, Variant};
 use headless_tree::Tree;
 use indexmap::IndexSet;
+use peer_steps::Making;
 use scene_model::{Fault, Node, Scene, SpawnMsg, SpawnerDef, SyncDef};
 use sqlite_items::{Items, at as item_at};
 use std::alloc::Global;
 
 /// The numbers of rows are below this one, and those of fixed synchronizers aren't.
 const FIXED_BIT: u32 = 2147483648;
-
-/// What a received spawn makes: the path of the parent and its own, the place of its scene, that
-/// scene's spawn properties in order, and the property that takes an argument.
-#[derive(Drop)]
-pub struct Making {
-    pub under: Text,
-    pub path: Text,
-    pub place: u32,
-    pub props: TextRun,
-    pub argument: Option<Text>,
-}
 
 /// The fixed node with a path id, its place from 1.
 fn fixed_node(scene: &Scene, id: u32) -> Option<&Node>

@@ -9,16 +9,16 @@ ghost use Rattle.scene_model.specs.Lookup.{has_prop as has_prop_of, spawner_at a
 ghost use Rattle.scene_model.specs.Valid.{IsValidScene};
 ghost use Rattle.peer_model.specs.Rows.{syncs_at};
 ghost use Rattle.peer_model.specs.Refusals.{may_make as may_make_of, setting_refusals};
-ghost use Rattle.spawn_track.specs.declared.spawning.Site.{Site as SiteOf};
-ghost use Rattle.spawn_track.specs.Judged.{is_at_limit as is_at_limit_of, rows_of_spawner, spawn_judged};
-ghost use Rattle.spawn_track.specs.Sites.{IsSite, byte_in, under_in, spawner_judged, name_judged, room_judged, sets_judged, argument_judged, values_judged, rest_judged, named_judged, props_at};
+ghost use Rattle.peer_steps.specs.declared.site.Site.{Site as SiteOf};
+ghost use Rattle.peer_steps.specs.Spawns.{is_at_limit as is_at_limit_of, rows_of_spawner, spawn_judged};
+ghost use Rattle.peer_steps.specs.Sites.{IsSite, byte_in, under_in, spawner_judged, name_judged, room_judged, sets_judged, argument_judged, values_judged, rest_judged, named_judged, props_at};
 
 use crate::lookup::{scene_place, spawner_at, syncs_of};
-use crate::rows::SpawnedRow;
 use crate::texts::{is_name, joined, same_text};
 use crate::values::{fits, owns};
 use gd_variant::{OutOfMemory, Text, Variant};
 use headless_tree::Tree;
+use peer_steps::{Site, SpawnedRow};
 use scene_model::{Prop, Refusal, Scene, SpawnOp, SpawnerDef, SyncDef};
 use sqlite_items::at as item_at;
 use std::alloc::Global;
@@ -31,16 +31,6 @@ const MOST_NET_ID: u64 = 2147483647;
 
 /// The scene byte of a custom spawn.
 pub const CUSTOM_BYTE: u8 = 255;
-
-/// Where a spawn puts its node: the parent's path, its own path, the place of its scene, and the
-/// first place of that scene in the spawner's list.
-#[derive(Drop)]
-pub struct Site {
-    pub under: Text,
-    pub path: Text,
-    pub place: Option<u32>,
-    pub byte: u8,
-}
 
 fn text_place(texts: &[Text], text: &Text) -> Option<usize>
     ensures place { result ≡ position (text_eq text.now) texts.now }

@@ -1,7 +1,7 @@
 use Rattle.std.proofs.Common.{◌∙◌, ap}
 use Rattle.std.specs.Prelude.{insert}
 use Rattle.peer_core.specs.Links.{new_link, link_before}
-use Rattle.peer_core.proofs.Put.{put_at}
+use Rattle.peer_steps.proofs.Put.{put_at}
 use Rattle.peer_core.proofs.links.put_link.Goals as goal
 
 pub returns : goal.returns

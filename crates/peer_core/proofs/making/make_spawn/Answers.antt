@@ -1,5 +1,5 @@
 use Rattle.std.proofs.Common.{arith}
-use Rattle.spawn_track.proofs.SpawnCalls.{made_values, made_right, made_next, made_small}
+use Rattle.peer_steps.proofs.SpawnCalls.{made_values, made_right, made_next, made_small}
 use Rattle.peer_core.proofs.making.make_spawn.Goals as goal
 
 pub show_to_each-requires-clause-values : goal.show_to_each-requires-clause-values

@@ -1,6 +1,7 @@
 use Rattle.std.proofs.Common.{ap, sym, ◌∙◌}
 use Rattle.peer_core.specs.Links.{peers_of}
-use Rattle.peer_core.specs.Arrivals.{link_judged_at, is_sound_read}
+use Rattle.peer_core.specs.Arrivals.{link_judged_at}
+use Rattle.peer_steps.specs.Sound.{is_sound_read}
 use Rattle.peer_core.specs.Parts.{parts_kept}
 use Rattle.peer_core.proofs.ReceivedParts.{if_same, linked_is}
 use Rattle.peer_core.proofs.receiving.take_message.Goals as goal

@@ -1,7 +1,7 @@
 use Rattle.std.proofs.Common.{ap, ◌∙◌}
 use Rattle.peer_core.specs.Parts.{parts_kept}
-use Rattle.peer_core.specs.Steps.{done_with}
-use Rattle.spawn_track.proofs.Admitted.{admitted}
+use Rattle.peer_steps.specs.Steps.{done_with}
+use Rattle.peer_steps.proofs.Admitted.{admitted}
 use Rattle.peer_core.proofs.Counted.{have_room}
 use Rattle.peer_core.proofs.RightAfter.{right_then}
 use Rattle.peer_core.proofs.ReceivedParts.{judged_none, judged_some, spawn_done, spawn_fault}

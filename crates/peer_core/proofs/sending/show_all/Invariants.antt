@@ -1,5 +1,6 @@
 use Rattle.std.proofs.Common.{◌≡◌, map, take}
-use Rattle.peer_core.specs.Steps.{packet_form, row_packet, sent_to, open_rows}
+use Rattle.peer_steps.specs.Steps.{row_packet, sent_to, open_rows}
+use Rattle.peer_core.specs.Forms.{packet_form}
 use Rattle.peer_core.proofs.sending.show_all.Given as goal
 
 abbrev pub invariant-loop-row : goal.invariant-loop-row

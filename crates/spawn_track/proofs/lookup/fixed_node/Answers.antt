@@ -2,7 +2,7 @@ use Rattle.std.proofs.Common.{ap, sym, ◌∙◌, List}
 use Rattle.std.specs.Prelude.{slice_get}
 use Rattle.scene_model.specs.declared.scene.Node.{Node}
 use Rattle.scene_model.specs.declared.scene.Scene.{Scene}
-use Rattle.spawn_track.proofs.PlacesOf.{node_found, node_missing}
+use Rattle.peer_steps.proofs.PlacesOf.{node_found, node_missing}
 use Rattle.spawn_track.proofs.lookup.fixed_node.Goals as goal
 
 pub returns-in-Some : goal.returns-in-Some

@@ -1,7 +1,7 @@
 use Rattle.std.proofs.Common.{ap, sym, ◌∙◌, arith, ◌+◌}
 use Rattle.std.specs.Prelude.{option_map}
 use Rattle.gd_variant.specs.Words.{or_else}
-use Rattle.spawn_track.proofs.PlacesOf.{id_found, nodes_few}
+use Rattle.peer_steps.proofs.PlacesOf.{id_found, nodes_few}
 use Rattle.spawn_track.proofs.lookup.path_id.Goals as goal
 
 pub overflow_cast-result : goal.overflow_cast-result

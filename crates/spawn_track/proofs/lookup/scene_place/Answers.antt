@@ -1,5 +1,5 @@
 use Rattle.std.proofs.Common.{sym, ◌∙◌, arith}
-use Rattle.spawn_track.proofs.PlacesOf.{scene_found, scenes_few}
+use Rattle.peer_steps.proofs.PlacesOf.{scene_found, scenes_few}
 use Rattle.spawn_track.proofs.lookup.scene_place.Goals as goal
 
 pub overflow_cast-result : goal.overflow_cast-result

@@ -1,6 +1,6 @@
-use Rattle.spawn_track.proofs.SpawnCalls.{row_told, added_within, added_new, added_tree, made_is}
-use Rattle.spawn_track.specs.Sites.{who_at}
-use Rattle.spawn_track.proofs.Parents.{made_parent, made_free}
+use Rattle.peer_steps.proofs.SpawnCalls.{row_told, added_within, added_new, added_tree, made_is}
+use Rattle.peer_steps.specs.Sites.{who_at}
+use Rattle.peer_steps.proofs.Parents.{made_parent, made_free}
 use Rattle.spawn_track.proofs.making.add_row.Goals as goal
 
 pub put_node-requires-clause-scene : goal.put_node-requires-clause-scene

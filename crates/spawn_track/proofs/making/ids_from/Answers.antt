@@ -1,4 +1,4 @@
-use Rattle.spawn_track.proofs.Numbering.{count_step}
+use Rattle.peer_steps.proofs.Numbering.{count_step}
 use Rattle.spawn_track.proofs.making.ids_from.Goals as goal
 
 pub loop-def-preserved : goal.loop-def-preserved

@@ -1,5 +1,5 @@
 use Rattle.std.proofs.Common.{◌≡◌, take}
-use Rattle.spawn_track.specs.Sites.{with_settings}
+use Rattle.peer_steps.specs.Sites.{with_settings}
 use Rattle.spawn_track.proofs.making.put_sets.Given as goal
 
 abbrev pub invariant-loop-set : goal.invariant-loop-set

@@ -1,4 +1,4 @@
-use Rattle.spawn_track.proofs.Assigned.{tree_kept}
+use Rattle.peer_steps.proofs.Assigned.{tree_kept}
 use Rattle.spawn_track.proofs.placing.put_value.Goals as goal
 
 pub returns-in-Err : goal.returns-in-Err

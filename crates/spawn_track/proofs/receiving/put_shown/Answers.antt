@@ -1,7 +1,7 @@
 use Rattle.std.proofs.Common.{ap, ◌∙◌, length}
-use Rattle.spawn_track.proofs.Admitted.{admitted, numbers_new, values_many, values_short}
-use Rattle.spawn_track.proofs.Parents.{shown_parent, shown_free}
-use Rattle.spawn_track.proofs.Putting.{spawn_put}
+use Rattle.peer_steps.proofs.Admitted.{admitted, numbers_new, values_many, values_short}
+use Rattle.peer_steps.proofs.Parents.{shown_parent, shown_free}
+use Rattle.peer_steps.proofs.Putting.{spawn_put}
 use Rattle.spawn_track.proofs.receiving.put_shown.Goals as goal
 
 pub put_node-requires-clause-numbers : goal.put_node-requires-clause-numbers

@@ -1,5 +1,5 @@
 use Rattle.std.proofs.Common.{drop}
-use Rattle.spawn_track.proofs.Assigning.{IsAssigning}
+use Rattle.peer_steps.proofs.Assigning.{IsAssigning}
 use Rattle.spawn_track.proofs.receiving.put_values.Given as goal
 
 abbrev pub invariant-loop-prop : goal.invariant-loop-prop

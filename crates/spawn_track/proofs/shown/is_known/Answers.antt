@@ -2,7 +2,7 @@ use Rattle.std.proofs.Common.{ap, ◌∙◌, w32, is_some, rules}
 use Rattle.std.specs.List.{list_any}
 use Rattle.std.proofs.lemmas.Int.{to_z-of_z}
 use Rattle.headless_tree.specs.Numbers.{has_number}
-use Rattle.spawn_track.proofs.Knowns.{some_placed}
+use Rattle.peer_steps.proofs.Knowns.{some_placed}
 use Rattle.spawn_track.proofs.shown.is_known.Goals as goal
 
 pub returns : goal.returns

@@ -1,5 +1,5 @@
 use Rattle.std.proofs.Common.{sym, ◌∙◌, ◌∷◌, arith}
-use Rattle.spawn_track.proofs.Knowns.{known_here, known_there, known_nowhere}
+use Rattle.peer_steps.proofs.Knowns.{known_here, known_there, known_nowhere}
 use Rattle.spawn_track.proofs.shown.known_id.Goals as goal
 
 pub returns-then-is_known : goal.returns-then-is_known

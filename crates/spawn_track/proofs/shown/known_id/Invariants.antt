@@ -1,5 +1,5 @@
 use Rattle.std.proofs.Common.{◌≡◌, [], ◌∷◌, drop}
-use Rattle.spawn_track.proofs.Knowns.{first_new, new_for}
+use Rattle.peer_steps.proofs.Knowns.{first_new, new_for}
 use Rattle.spawn_track.proofs.shown.known_id.Given as goal
 
 abbrev pub invariant-loop-id : goal.invariant-loop-id

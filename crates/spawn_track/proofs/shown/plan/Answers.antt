@@ -1,5 +1,5 @@
 use Rattle.std.proofs.Common.{sym, ◌∙◌}
-use Rattle.spawn_track.proofs.Planned.{place_is_there}
+use Rattle.peer_steps.proofs.Planned.{place_is_there}
 use Rattle.spawn_track.proofs.shown.plan.Goals as goal
 
 pub unreachable-requires : goal.unreachable-requires

@@ -1,6 +1,6 @@
 use Rattle.std.proofs.Common.{ap, sym, ◌∙◌}
 use Rattle.gd_variant.specs.Words.{or_else}
-use Rattle.spawn_track.proofs.PlacesOf.{place_found}
+use Rattle.peer_steps.proofs.PlacesOf.{place_found}
 use Rattle.spawn_track.proofs.spawning.byte_of.Goals as goal
 
 pub returns-in-Some : goal.returns-in-Some

@@ -1,5 +1,5 @@
 use Rattle.std.proofs.Common.{ap, length, arith}
-use Rattle.spawn_track.proofs.SpawnParts.{few_syncs}
+use Rattle.peer_steps.proofs.SpawnParts.{few_syncs}
 use Rattle.spawn_track.proofs.spawning.judge_rest.Goals as goal
 
 pub judge_room-requires : goal.judge_room-requires

@@ -1,5 +1,5 @@
 use Rattle.std.proofs.Common.{◌≡◌, drop}
-use Rattle.spawn_track.specs.Sites.{sets_judged}
+use Rattle.peer_steps.specs.Sites.{sets_judged}
 use Rattle.spawn_track.proofs.spawning.judge_sets.Given as goal
 
 abbrev pub invariant-loop-set : goal.invariant-loop-set

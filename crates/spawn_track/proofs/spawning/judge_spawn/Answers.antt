@@ -1,6 +1,6 @@
 use Rattle.std.proofs.Common.{refl}
 use Rattle.std.specs.Option.{option_copied}
-use Rattle.spawn_track.proofs.SpawnParts.{spawn_first, spawn_rest}
+use Rattle.peer_steps.proofs.SpawnParts.{spawn_first, spawn_rest}
 use Rattle.spawn_track.proofs.spawning.judge_spawn.Goals as goal
 
 pub returns-in-Some : goal.returns-in-Some

@@ -1,5 +1,5 @@
 use Rattle.std.specs.Option.{option_copied}
-use Rattle.spawn_track.proofs.SpawnParts.{few_scenes}
+use Rattle.peer_steps.proofs.SpawnParts.{few_scenes}
 use Rattle.spawn_track.proofs.spawning.site_of.Goals as goal
 
 pub site_with-requires-clause-few : goal.site_with-requires-clause-few

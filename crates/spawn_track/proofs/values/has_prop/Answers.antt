@@ -1,7 +1,7 @@
 use Rattle.std.proofs.Common.{ap, ◌∙◌}
 use Rattle.std.specs.Prelude.{is_some}
 use Rattle.scene_model.specs.Lookup.{value_in}
-use Rattle.spawn_track.proofs.Found.{found_named, copied_is_some}
+use Rattle.peer_steps.proofs.Found.{found_named, copied_is_some}
 use Rattle.spawn_track.proofs.values.has_prop.Goals as goal
 
 pub returns : goal.returns

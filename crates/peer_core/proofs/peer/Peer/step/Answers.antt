@@ -1,5 +1,5 @@
-use Rattle.peer_core.specs.Steps.{packet_form}
-use Rattle.peer_core.proofs.Clauses.{step_answers, step_stands, step_unchanged}
+use Rattle.peer_core.specs.Forms.{packet_form}
+use Rattle.peer_steps.proofs.Clauses.{step_answers, step_stands, step_unchanged}
 use Rattle.peer_core.proofs.PeerCalls.{step_made}
 use Rattle.peer_core.proofs.peer.Peer.step.Goals as goal
 

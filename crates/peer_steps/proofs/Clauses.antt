@@ -8,10 +8,10 @@ use Rattle.peer_model.specs.View.{report_of, row_of}
 use Rattle.peer_model.specs.Bytes.{PacketForm}
 use Rattle.headless_tree.specs.Nodes.{fixed_nodes}
 use Rattle.peer_laws.proofs.TreeStart.{tree_start}
-use Rattle.peer_core.specs.Kept.{Kept}
-use Rattle.peer_core.specs.Stands.{HasParts, StandsFor, is_answered, built_answer, is_built_event}
-use Rattle.peer_core.specs.Steps.{Taken, taken, is_done}
-use Rattle.peer_core.proofs.Whole.{taken_right, kept_still}
+use Rattle.peer_steps.specs.Kept.{Kept}
+use Rattle.peer_steps.specs.Stands.{HasParts, StandsFor, is_answered, built_answer, is_built_event}
+use Rattle.peer_steps.specs.Steps.{Taken, taken, is_done}
+use Rattle.peer_steps.proofs.Whole.{taken_right, kept_still}
 
 -- a new peer stands for no events
 pub start_stands : (form : PacketForm) (k : Kept) → k.spent ≡ false → IsValidScene k.who.scene → k.come ≡ [] → k.up ≡ [] → k.nodes ≡ fixed_nodes k.who.scene → k.next ≡ 1 → k.rows ≡ [] → StandsFor form k []

@@ -22,10 +22,10 @@ use Rattle.headless_tree.specs.Numbers.{are_new}
 use Rattle.peer_laws.specs.Facts.{rows_under}
 use Rattle.peer_laws.proofs.Tests.{no_row, no_first, none_mapped}
 use Rattle.peer_laws.proofs.Scenes.{shown_name}
-use Rattle.spawn_track.specs.Judged.{shown_judged}
-use Rattle.spawn_track.specs.Arrivals.{meaning_judged, judged_beside}
-use Rattle.spawn_track.proofs.Knowns.{first_new, new_for, known_first}
-use Rattle.spawn_track.proofs.SpawnParts.{first-append}
+use Rattle.peer_steps.specs.Spawns.{shown_judged}
+use Rattle.peer_steps.specs.Arrivals.{meaning_judged, judged_beside}
+use Rattle.peer_steps.proofs.Knowns.{first_new, new_for, known_first}
+use Rattle.peer_steps.proofs.SpawnParts.{first-append}
 
 -- the parts of why a spawn is a fault, one after the other
 pub judged_is : (who : Who) (nodes : List Live) (c : ℤ) (m : SpawnMsg) → judged_beside who.scene nodes (length (rows_under c nodes)) c m ≡ shown_judged who nodes c m

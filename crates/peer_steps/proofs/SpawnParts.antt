@@ -23,10 +23,10 @@ use Rattle.headless_tree.proofs.Numbered.{all_at}
 use Rattle.peer_model.specs.Updates.{Live, live_at}
 use Rattle.peer_laws.proofs.Places.{all_found}
 use Rattle.peer_laws.proofs.Scenes.{all_right, nodes_right, scenes_right, right_node, right_def}
-use Rattle.spawn_track.specs.declared.rows.SpawnedRow.{SpawnedRow}
-use Rattle.spawn_track.specs.declared.spawning.Site.{Site}
-use Rattle.spawn_track.specs.Judged.{is_at_limit, spawn_judged}
-use Rattle.spawn_track.specs.Sites.{IsSite, under_in, spawner_judged, name_judged, rest_judged, named_judged, props_at}
+use Rattle.peer_steps.specs.declared.rows.SpawnedRow.{SpawnedRow}
+use Rattle.peer_steps.specs.declared.site.Site.{Site}
+use Rattle.peer_steps.specs.Spawns.{is_at_limit, spawn_judged}
+use Rattle.peer_steps.specs.Sites.{IsSite, under_in, spawner_judged, name_judged, rest_judged, named_judged, props_at}
 
 -- the first answer of two lists
 pub first-append : {X : Type 0} (xs ys : List (Option X)) → first_of (xs ++ ys) ≡ first_some (first_of xs) (first_of ys)

@@ -10,7 +10,7 @@ use Rattle.peer_model.specs.Rows.{syncs_at}
 use Rattle.peer_model.specs.Updates.{Live}
 use Rattle.peer_model.specs.View.{fits}
 use Rattle.headless_tree.specs.Nodes.{is_row_of}
-use Rattle.spawn_track.specs.declared.rows.SpawnedRow.{SpawnedRow}
+use Rattle.peer_steps.specs.declared.rows.SpawnedRow.{SpawnedRow}
 
 -- a value that a property may have: it is sound, and not too long
 abbrev pub is_right_value : Variant → Bool

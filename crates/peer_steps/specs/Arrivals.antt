@@ -16,7 +16,7 @@ use Rattle.peer_model.specs.Refusals.{most_rows}
 use Rattle.peer_model.specs.Faults.{auth_is, bad_id, known_ids, first_known, wrong_spawn}
 use Rattle.headless_tree.specs.Nodes.{assigned}
 use Rattle.peer_laws.specs.Facts.{rows_under}
-use Rattle.spawn_track.specs.declared.shown.Making.{Making}
+use Rattle.peer_steps.specs.declared.making.Making.{Making}
 
 -- no spawner of the sender that makes such a scene
 abbrev pub meaning_judged : Scene → ℤ → SpawnMsg → Option Fault

@@ -10,11 +10,11 @@ use Rattle.peer_model.specs.Rows.{syncs_at, spawned_scene}
 use Rattle.peer_model.specs.Updates.{Live}
 use Rattle.headless_tree.specs.Nodes.{TreeOf, row_before, spawned_node}
 use Rattle.headless_tree.specs.Numbers.{are_new}
-use Rattle.spawn_track.specs.declared.rows.SpawnedRow.{SpawnedRow}
-use Rattle.spawn_track.specs.declared.spawning.Site.{Site}
-use Rattle.spawn_track.specs.Rights.{has_right_values, is_right_row}
-use Rattle.spawn_track.specs.Sites.{MaySpawn, who_at, own_made, with_made, after_made, site_row, with_settings}
-use Rattle.spawn_track.proofs.SpawnMade.{spawn_within, spawn_new, spawn_row, spawn_nodes, spawn_values, spawn_row_right}
+use Rattle.peer_steps.specs.declared.rows.SpawnedRow.{SpawnedRow}
+use Rattle.peer_steps.specs.declared.site.Site.{Site}
+use Rattle.peer_steps.specs.Rights.{has_right_values, is_right_row}
+use Rattle.peer_steps.specs.Sites.{MaySpawn, who_at, own_made, with_made, after_made, site_row, with_settings}
+use Rattle.peer_steps.proofs.SpawnMade.{spawn_within, spawn_new, spawn_row, spawn_nodes, spawn_values, spawn_row_right}
 use Rattle.peer_laws.proofs.Sight.{length-count_from}
 
 -- the row as its parts were made of the scene that a call showed

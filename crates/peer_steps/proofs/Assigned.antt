@@ -13,7 +13,7 @@ use Rattle.headless_tree.specs.declared.node.TreeNo.{TreeNo}
 use Rattle.headless_tree.specs.declared.node.TreeNo.TheVariants.{NoNode, NoProp, ValueTooLong}
 use Rattle.headless_tree.specs.Lists.{change_first}
 use Rattle.headless_tree.specs.Nodes.{is_at, with_value, is_long, lacks_prop, assign_no, assigned, TreeOf}
-use Rattle.spawn_track.proofs.Found.{found_named, mapped_is_some}
+use Rattle.peer_steps.proofs.Found.{found_named, mapped_is_some}
 
 pub change_none : {X : Type 0} (test : X → Bool) (f : X → X) (xs : List X) → find test xs ≡ None → change_first test f xs ≡ xs
 change_none test f [] h = refl

@@ -14,9 +14,9 @@ use Rattle.peer_model.specs.Faults.{fault_of}
 use Rattle.peer_model.specs.Answer.{keep_done, done, decided, deeds, sends, runs, raws, skips, Parcel}
 use Rattle.peer_model.specs.Bytes.{PacketForm, heard_of, answer, accepted_events, out_of, outcome_of}
 use Rattle.peer_model.proofs.Accept.{accepted_refused, accepted_done}
-use Rattle.peer_core.specs.Kept.{Kept}
-use Rattle.peer_core.specs.Stands.{HasParts, StandsFor, is_answered, built_answer}
-use Rattle.peer_core.specs.Steps.{Taken, unchanged, done_with}
+use Rattle.peer_steps.specs.Kept.{Kept}
+use Rattle.peer_steps.specs.Stands.{HasParts, StandsFor, is_answered, built_answer}
+use Rattle.peer_steps.specs.Steps.{Taken, unchanged, done_with}
 
 -- what is answered to an event, and, where the definitions' answer is given, what stands for the events with it
 pub record Right (form : PacketForm) (k : Kept) (es : List Event) (e : Event) (t : Taken) : Type 0 where

@@ -20,11 +20,11 @@ use Rattle.peer_model.specs.Updates.{Live, live_at, custom_byte}
 use Rattle.peer_model.specs.Refusals.{most_rows, most_net_id, owns, may_make, setting_refusals, argument_fits}
 use Rattle.headless_tree.specs.Nodes.{TreeOf, assigned, row_before}
 use Rattle.peer_laws.specs.Shown.{spawned_live}
-use Rattle.spawn_track.specs.Rows.{kept_row, row_of_spawn}
-use Rattle.spawn_track.specs.declared.rows.SpawnedRow.{SpawnedRow}
-use Rattle.spawn_track.specs.declared.spawning.Site.{Site}
-use Rattle.spawn_track.specs.Judged.{is_at_limit}
-use Rattle.spawn_track.specs.Rights.{has_right_values, are_right, is_before}
+use Rattle.peer_steps.specs.Rows.{kept_row, row_of_spawn}
+use Rattle.peer_steps.specs.declared.rows.SpawnedRow.{SpawnedRow}
+use Rattle.peer_steps.specs.declared.site.Site.{Site}
+use Rattle.peer_steps.specs.Spawns.{is_at_limit}
+use Rattle.peer_steps.specs.Rights.{has_right_values, are_right, is_before}
 
 -- the place of a scene's name in a spawner's list
 abbrev pub byte_in : Option (List ℕ) → Option SpawnerDef → ℕ

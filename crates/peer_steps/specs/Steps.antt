@@ -24,22 +24,16 @@ use Rattle.scene_model.specs.declared.outcome.Refusal.TheVariants.{NotBuilt}
 use Rattle.scene_model.specs.declared.outcome.Fault.{Fault as FaultOf}
 use Rattle.scene_model.specs.declared.outcome.Fault.TheVariants as fault
 use Rattle.scene_model.specs.Lookup.{fixed_path_id}
-use Rattle.packet_codec.specs.Packets.{read_packet}
-use Rattle.packet_codec.specs.Written.{written_packet}
 use Rattle.peer_model.specs.Rows.{syncs_at, spawned_scene}
 use Rattle.peer_model.specs.Updates.{Live, shown_node, all_spawn_props}
 use Rattle.peer_model.specs.Bytes.{PacketForm}
 use Rattle.headless_tree.specs.Nodes.{row_before, assigned, without_rows}
 use Rattle.peer_laws.specs.Shown.{is_open, values_in, spawned_live}
-use Rattle.spawn_track.specs.declared.rows.SpawnedRow.{SpawnedRow}
-use Rattle.spawn_track.specs.Rows.{kept_row, row_of_spawn}
-use Rattle.peer_core.specs.Kept.{Kept}
-use Rattle.spawn_track.specs.Judged.{spawn_judged, shown_judged}
-use Rattle.peer_core.specs.Judged.{up_judged, down_judged, set_judged, link_judged}
-
--- how the packets of this project are read and written
-abbrev pub packet_form : PacketForm
-packet_form = record { read_packet = read_packet; written_packet = written_packet }
+use Rattle.peer_steps.specs.declared.rows.SpawnedRow.{SpawnedRow}
+use Rattle.peer_steps.specs.Rows.{kept_row, row_of_spawn}
+use Rattle.peer_steps.specs.Kept.{Kept}
+use Rattle.peer_steps.specs.Spawns.{spawn_judged, shown_judged}
+use Rattle.peer_steps.specs.Judged.{up_judged, down_judged, set_judged, link_judged}
 
 -- an outcome, with what is kept then
 pub record Taken : Type 0 where

@@ -5,7 +5,7 @@ use Rattle.std.specs.List.{list_all}
 use Rattle.gd_variant.specs.declared.value.Variant.{Variant}
 use Rattle.peer_model.specs.View.{fits}
 use Rattle.headless_tree.specs.Nodes.{TreeOf}
-use Rattle.spawn_track.specs.Arrivals.{assigned_all}
+use Rattle.peer_steps.specs.Arrivals.{assigned_all}
 
 -- what is left to assign to the tree as it is makes what was to be assigned to the tree as it was
 pub record IsAssigning (path : List ℕ) (old : TreeOf) (left : List (List ℕ)) (values : List Variant) (now : TreeOf) (props : List (List ℕ)) (all : List Variant) : Type 0 where

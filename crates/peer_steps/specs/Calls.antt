@@ -13,8 +13,8 @@ use Rattle.peer_model.specs.View.{fits}
 use Rattle.peer_model.specs.Bytes.{PacketForm}
 use Rattle.headless_tree.specs.Nodes.{assigned}
 use Rattle.peer_laws.specs.Shown.{is_open}
-use Rattle.spawn_track.specs.declared.rows.SpawnedRow.{SpawnedRow}
-use Rattle.peer_core.specs.Steps.{row_packet, sent_to}
+use Rattle.peer_steps.specs.declared.rows.SpawnedRow.{SpawnedRow}
+use Rattle.peer_steps.specs.Steps.{row_packet, sent_to}
 
 -- a row's packet for each of these peers, where the row is shown
 abbrev pub shown_to_each : PacketForm → Scene → List Live → List ℤ → SpawnedRow → List Out

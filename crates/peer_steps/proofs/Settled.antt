@@ -12,7 +12,7 @@ use Rattle.headless_tree.specs.Lists.{change_first}
 use Rattle.headless_tree.specs.Nodes.{is_at, with_value, row_before, assigned}
 use Rattle.peer_laws.specs.Shown.{settings}
 use Rattle.peer_laws.proofs.Once.{change_once}
-use Rattle.spawn_track.specs.Sites.{with_settings}
+use Rattle.peer_steps.specs.Sites.{with_settings}
 
 -- a change of the one element that passes, which was put among others
 pub change_put : {X : Type 0} (test : X → Bool) (f : X → X) (before : X → X → Bool) (x : X) (ys : List X) → find test ys ≡ None → test x ≡ true → ((y : X) → before y (f x) ≡ before y x)

@@ -45,16 +45,16 @@ use Rattle.peer_laws.proofs.Views.{shown_by, view_rows_under}
 use Rattle.peer_laws.proofs.FactsOf.{facts}
 use Rattle.peer_laws.proofs.Sends.{sends_come, sends_go, sends_set, sends_spawn, sends_receive}
 use Rattle.peer_laws.proofs.Rows.{rows_come, rows_go, rows_set, rows_spawn, rows_receive, next_come, next_go, next_set, next_spawn, next_receive}
-use Rattle.spawn_track.specs.Rows.{kept_row, row_of_spawn}
-use Rattle.peer_core.specs.Kept.{Kept}
-use Rattle.spawn_track.specs.Judged.{spawn_judged, shown_judged}
-use Rattle.peer_core.specs.Judged.{up_judged, down_judged, set_judged, link_judged}
-use Rattle.peer_core.specs.Stands.{HasParts, StandsFor, is_answered, is_built_event}
-use Rattle.peer_core.specs.Steps.{done_with, taken, up_taken, down_taken, set_taken, spawn_taken, op_taken, shown_taken, message_taken, linked_taken, read_taken, spawn_read, with_spawn, shows_of, shows_to, open_rows, row_packet, sent_to, is_done}
-use Rattle.peer_core.proofs.Judging.{up_judged_is, down_judged_is, spawn_judged_is, set_judged_is, link_judged_is, shown_judged_is}
-pub use Rattle.peer_core.proofs.Accepted.{Right}
-use Rattle.peer_core.proofs.Accepted.{refused_right, fault_right, unbuilt_right, done_sends, done_right}
-use Rattle.peer_core.proofs.Packets.{all_shown, shown_where_open, all_direct, rows_are_plain}
+use Rattle.peer_steps.specs.Rows.{kept_row, row_of_spawn}
+use Rattle.peer_steps.specs.Kept.{Kept}
+use Rattle.peer_steps.specs.Spawns.{spawn_judged, shown_judged}
+use Rattle.peer_steps.specs.Judged.{up_judged, down_judged, set_judged, link_judged}
+use Rattle.peer_steps.specs.Stands.{HasParts, StandsFor, is_answered, is_built_event}
+use Rattle.peer_steps.specs.Steps.{done_with, taken, up_taken, down_taken, set_taken, spawn_taken, op_taken, shown_taken, message_taken, linked_taken, read_taken, spawn_read, with_spawn, shows_of, shows_to, open_rows, row_packet, sent_to, is_done}
+use Rattle.peer_steps.proofs.Judging.{up_judged_is, down_judged_is, spawn_judged_is, set_judged_is, link_judged_is, shown_judged_is}
+pub use Rattle.peer_steps.proofs.Accepted.{Right}
+use Rattle.peer_steps.proofs.Accepted.{refused_right, fault_right, unbuilt_right, done_sends, done_right}
+use Rattle.peer_steps.proofs.Packets.{all_shown, shown_where_open, all_direct, rows_are_plain}
 
 -- a link that comes up
 

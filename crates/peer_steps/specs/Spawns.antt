@@ -17,7 +17,7 @@ use Rattle.peer_model.specs.Updates.{Live, live_at, spawner_with, scene_name_of,
 use Rattle.peer_model.specs.Refusals.{most_rows, most_net_id, owns, may_make, setting_refusals, argument_fits}
 use Rattle.peer_model.specs.Faults.{auth_is, bad_id, known_ids, first_known, wrong_spawn}
 use Rattle.peer_laws.specs.Facts.{rows_under}
-use Rattle.spawn_track.specs.declared.rows.SpawnedRow.{SpawnedRow}
+use Rattle.peer_steps.specs.declared.rows.SpawnedRow.{SpawnedRow}
 
 -- the rows of a spawner
 abbrev pub rows_of_spawner : List ℕ → List SpawnedRow → List SpawnedRow

@@ -13,10 +13,10 @@ use Rattle.peer_model.specs.Values.{props_in}
 use Rattle.peer_model.specs.Updates.{Live, live_at, assign, assign_all, assign_argument, custom_prop, shown_node, shown_path, shown_place, shown_props, shown_spawn_props}
 use Rattle.headless_tree.specs.Nodes.{TreeOf, row_before, spawned_node}
 use Rattle.peer_laws.proofs.Scenes.{place_props_apart}
-use Rattle.spawn_track.specs.declared.shown.Making.{Making}
-use Rattle.spawn_track.specs.Arrivals.{IsMaking, assigned_all, argument_assigned}
-use Rattle.spawn_track.proofs.Assigned.{none_from}
-use Rattle.spawn_track.proofs.Settled.{assign_names, one_setting}
+use Rattle.peer_steps.specs.declared.making.Making.{Making}
+use Rattle.peer_steps.specs.Arrivals.{IsMaking, assigned_all, argument_assigned}
+use Rattle.peer_steps.proofs.Assigned.{none_from}
+use Rattle.peer_steps.proofs.Settled.{assign_names, one_setting}
 
 -- a node with other values
 abbrev pub with_values : Live → List Prop → Live

@@ -5,7 +5,7 @@ use Rattle.scene_model.specs.declared.event.SpawnOp.{SpawnOp}
 use Rattle.peer_model.specs.Heard.{Who}
 use Rattle.peer_model.specs.Rows.{OwnRow, syncs_at, spawned_path, spawned_scene, count_from}
 use Rattle.peer_model.specs.Changes.{scene_byte}
-use Rattle.spawn_track.specs.declared.rows.SpawnedRow.{SpawnedRow}
+use Rattle.peer_steps.specs.declared.rows.SpawnedRow.{SpawnedRow}
 
 -- the row that a spawn makes
 abbrev pub row_of_spawn : Who → ℕ → SpawnOp → OwnRow

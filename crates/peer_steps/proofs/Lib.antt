@@ -12,3 +12,9 @@ pub mod Assigning
 pub mod Admitted
 pub mod Putting
 pub mod Parents
+pub mod Put
+pub mod Judging
+pub mod Accepted
+pub mod Packets
+pub mod Whole
+pub mod Clauses

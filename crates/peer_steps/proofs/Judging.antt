@@ -27,11 +27,11 @@ use Rattle.peer_model.specs.Faults.{link_fault, spawn_fault}
 use Rattle.peer_model.proofs.Links.{was_up_come}
 use Rattle.peer_laws.specs.Facts.{rows_under}
 use Rattle.peer_laws.proofs.Ups.{has_up}
-use Rattle.spawn_track.specs.Rows.{kept_row}
-use Rattle.peer_core.specs.Kept.{Kept}
-use Rattle.spawn_track.specs.Judged.{rows_of_spawner, is_at_limit, spawn_judged, shown_judged}
-use Rattle.peer_core.specs.Judged.{up_judged, down_judged, set_judged, link_judged}
-use Rattle.peer_core.specs.Stands.{HasParts}
+use Rattle.peer_steps.specs.Rows.{kept_row}
+use Rattle.peer_steps.specs.Kept.{Kept}
+use Rattle.peer_steps.specs.Spawns.{rows_of_spawner, is_at_limit, spawn_judged, shown_judged}
+use Rattle.peer_steps.specs.Judged.{up_judged, down_judged, set_judged, link_judged}
+use Rattle.peer_steps.specs.Stands.{HasParts}
 
 -- links
 

@@ -27,19 +27,19 @@ use Rattle.peer_model.specs.Refusals.{most_rows, most_net_id, owns, may_make}
 use Rattle.headless_tree.specs.Nodes.{row_before, spawned_node, is_row_of}
 use Rattle.headless_tree.specs.Numbers.{has_number, is_new, are_new}
 use Rattle.headless_tree.proofs.Numbered.{all_at, and_true}
-use Rattle.spawn_track.specs.Rights.{is_right_value, are_right, has_right_values, is_before, is_right_row}
+use Rattle.peer_steps.specs.Rights.{is_right_value, are_right, has_right_values, is_before, is_right_row}
 use Rattle.peer_laws.specs.Shown.{spawned_live, settings}
 use Rattle.peer_laws.proofs.Tests.{no_row, not_false, first_none, some_of}
 use Rattle.peer_laws.proofs.Each.{all-put_by}
 use Rattle.peer_laws.proofs.Scenes.{scene_props_apart, all_right, scenes_right, right_def, named_at_is_placed}
-use Rattle.spawn_track.specs.declared.rows.SpawnedRow.{SpawnedRow}
-use Rattle.spawn_track.specs.declared.spawning.Site.{Site}
-use Rattle.spawn_track.specs.Rows.{kept_row, row_of_spawn}
-use Rattle.spawn_track.specs.Judged.{is_at_limit, spawn_judged}
-use Rattle.spawn_track.specs.Sites.{IsSite, IsWelcome, MaySpawn, byte_in, has_short, sets_judged, argument_judged, values_judged, room_judged, rest_judged, spawner_judged, name_judged, with_settings, site_row, props_at}
-use Rattle.spawn_track.proofs.SpawnParts.{spawn_in_parts, path_of_spawn, scene_of_spawn, few_scenes}
-use Rattle.spawn_track.proofs.Settled.{settled}
-use Rattle.spawn_track.proofs.Assigned.{none_from}
+use Rattle.peer_steps.specs.declared.rows.SpawnedRow.{SpawnedRow}
+use Rattle.peer_steps.specs.declared.site.Site.{Site}
+use Rattle.peer_steps.specs.Rows.{kept_row, row_of_spawn}
+use Rattle.peer_steps.specs.Spawns.{is_at_limit, spawn_judged}
+use Rattle.peer_steps.specs.Sites.{IsSite, IsWelcome, MaySpawn, byte_in, has_short, sets_judged, argument_judged, values_judged, room_judged, rest_judged, spawner_judged, name_judged, with_settings, site_row, props_at}
+use Rattle.peer_steps.proofs.SpawnParts.{spawn_in_parts, path_of_spawn, scene_of_spawn, few_scenes}
+use Rattle.peer_steps.proofs.Settled.{settled}
+use Rattle.peer_steps.proofs.Assigned.{none_from}
 use Rattle.peer_laws.proofs.Sight.{length-count_from}
 
 -- settings that aren't refused are short

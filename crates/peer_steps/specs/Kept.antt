@@ -2,7 +2,7 @@
 use Rattle.std.specs.Prelude.{ℕ, ℤ, Bool, List}
 use Rattle.peer_model.specs.Heard.{Who}
 use Rattle.peer_model.specs.Updates.{Live}
-use Rattle.spawn_track.specs.declared.rows.SpawnedRow.{SpawnedRow}
+use Rattle.peer_steps.specs.declared.rows.SpawnedRow.{SpawnedRow}
 
 -- what contracts see of a peer: its number and scene, whether it is spent, the peers that ever came up, those that are up, its nodes, the next number, and its rows
 pub record Kept : Type 0 where

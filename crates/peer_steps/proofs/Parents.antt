@@ -17,12 +17,12 @@ use Rattle.peer_model.specs.Updates.{Live, live_at, spawner_with, scene_name_of,
 use Rattle.headless_tree.proofs.Numbered.{all_at}
 use Rattle.peer_laws.proofs.Places.{all_found}
 use Rattle.peer_laws.proofs.Scenes.{all_right, nodes_right, right_node}
-use Rattle.spawn_track.specs.declared.shown.Making.{Making}
-use Rattle.spawn_track.specs.declared.spawning.Site.{Site}
-use Rattle.spawn_track.specs.Arrivals.{IsMaking}
-use Rattle.spawn_track.specs.Sites.{MaySpawn, under_in}
-use Rattle.spawn_track.proofs.SpawnMade.{site_below}
-use Rattle.spawn_track.proofs.Assigned.{none_from}
+use Rattle.peer_steps.specs.declared.making.Making.{Making}
+use Rattle.peer_steps.specs.declared.site.Site.{Site}
+use Rattle.peer_steps.specs.Arrivals.{IsMaking}
+use Rattle.peer_steps.specs.Sites.{MaySpawn, under_in}
+use Rattle.peer_steps.proofs.SpawnMade.{site_below}
+use Rattle.peer_steps.proofs.Assigned.{none_from}
 
 -- a spawner of a node spawns below a fixed one
 abbrev has_parent : Scene → Node → Bool

@@ -25,9 +25,16 @@ use Rattle.peer_laws.specs.Shown.{is_open, show_packet, values_in}
 use Rattle.peer_laws.proofs.Numbers.{int_same}
 use Rattle.peer_laws.proofs.Ups.{has_up, up_is_direct}
 use Rattle.peer_laws.proofs.Rows.{rows_all}
-use Rattle.spawn_track.specs.Rows.{kept_row}
-use Rattle.peer_core.specs.Steps.{row_packet, sent_to, open_rows}
-use Rattle.peer_core.proofs.KeptRight.{or_true, or_left}
+use Rattle.peer_steps.specs.Rows.{kept_row}
+use Rattle.peer_steps.specs.Steps.{row_packet, sent_to, open_rows}
+
+pub or_true : (a b : Bool) → b ≡ true → (a || b) ≡ true
+or_true true b h = refl
+or_true false b h = h
+
+pub or_left : (a b : Bool) → a ≡ true → (a || b) ≡ true
+or_left true b h = refl
+or_left false b h = absurd (cc h)
 
 -- whether a row was made by a spawn without an argument
 abbrev pub is_plain_row : OwnRow → Bool

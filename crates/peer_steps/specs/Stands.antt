@@ -12,8 +12,8 @@ use Rattle.peer_model.specs.Rows.{own_rows, next_number}
 use Rattle.peer_model.specs.View.{tree_of}
 use Rattle.peer_model.specs.Bytes.{PacketForm, heard_of, answer, accepted_events}
 use Rattle.peer_laws.specs.Built.{AllAccepted, is_built_op, is_unbuilt}
-use Rattle.spawn_track.specs.Rows.{kept_row}
-use Rattle.peer_core.specs.Kept.{Kept}
+use Rattle.peer_steps.specs.Rows.{kept_row}
+use Rattle.peer_steps.specs.Kept.{Kept}
 
 -- a peer that isn't spent has the parts that accepted events give
 pub record HasParts (k : Kept) (es : List Heard) : Type 0 where

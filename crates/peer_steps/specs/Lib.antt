@@ -1,0 +1,12 @@
+pub mod Rows
+pub mod Rights
+pub mod Sound
+pub mod Spawns
+pub mod Sites
+pub mod Arrivals
+pub mod Kept
+pub mod Judged
+pub mod Steps
+pub mod Stands
+pub mod Peers
+pub mod Calls

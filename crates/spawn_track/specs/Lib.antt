@@ -1,5 +1,0 @@
-pub mod Rows
-pub mod Judged
-pub mod Rights
-pub mod Sites
-pub mod Arrivals
