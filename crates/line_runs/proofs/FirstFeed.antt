@@ -1,7 +1,7 @@
 -- The judged lines of some bytes, by where the first line feed stands.
 use Rattle.std.proofs.Common.{◌≡◌, ℕ, zero, suc, ◌+◌, ◌-◌, ◌≤◌, ◌<◌, Bool, true, false, cond, List, [], ◌∷◌, length, take, refl, sym, ap, ap₂, ◌∙◌, arith}
 use Rattle.std.specs.List.{position_or_len, before_first, after_first}
-use Rattle.session_text.specs.Lines.{is_line_feed}
+use Rattle.program_edge.specs.Lines.{is_line_feed}
 use Rattle.line_runs.specs.Judged.{Judged, before_all, lines_of}
 
 one_more : (n : ℕ) → 1 + n ≡ suc n

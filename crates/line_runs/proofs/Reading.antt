@@ -4,12 +4,12 @@ use Rattle.std.specs.List.{position_or_len, before_first, after_first}
 use Rattle.std.proofs.lemmas.Bool.{le-leb, lt-leb, leb-true, leb-false, lt-ltb, le-ltb, ltb-true, ltb-false}
 use Rattle.std.proofs.lemmas.List.{length-take}
 use Rattle.std.proofs.lemmas.List.Sums.{prefix_len-le-length}
-use Rattle.session_text.specs.Lines.{a_line, last_line, too_long, no_line, first_line, is_line_feed}
-use Rattle.session_text.specs.declared.status.Status.TheVariants as status
-use Rattle.session_text.proofs.FirstLines.{a_line-parts, last_line-parts, no_line-empty}
+use Rattle.program_edge.specs.Lines.{a_line, last_line, too_long, no_line, first_line, is_line_feed}
+use Rattle.program_edge.specs.declared.status.Status.TheVariants as status
+use Rattle.program_edge.proofs.FirstLines.{a_line-parts, last_line-parts, no_line-empty}
 use Rattle.line_runs.specs.Judged.{Judged, is_whole, lines_of}
-use Rattle.session_text.specs.declared.status.LineWhy.{LineWhy}
-use Rattle.session_text.specs.declared.status.Status.{Status}
+use Rattle.program_edge.specs.declared.status.LineWhy.{LineWhy}
+use Rattle.program_edge.specs.declared.status.Status.{Status}
 use Rattle.line_runs.specs.Output.{Read, Telling, end_after, next_number, read_by, read_from, read_line, read_on, stops}
 use Rattle.line_runs.proofs.FirstFeed.{cut, first_fed, one_line, unfed, unfed_front}
 

@@ -2,12 +2,12 @@
 use Rattle.std.proofs.Common.{◌≡◌, ℕ, ◌+◌, List, [], ◌∷◌, ◌++◌, take, drop, Option, Some, None, Result, Ok, refl, sym, ap, subst, ◌∙◌, append_assoc, append-nil, take-append-drop, arith}
 use Rattle.std.specs.List.{concat}
 use Rattle.std.proofs.lemmas.List.Folds.{concat-append}
-use Rattle.session_text.specs.Lines.{Reader, ReadsLine, a_line, first_line, fresh, last_line, no_line, too_long, unread}
-use Rattle.session_text.specs.declared.lines.NextLine.{NextLine}
-use Rattle.session_text.specs.declared.lines.NextLine.TheVariants.{Line, Last, Long, End}
-use Rattle.session_text.specs.declared.status.LineWhy.{LineWhy}
-use Rattle.session_text.specs.declared.status.Status.{Status}
-use Rattle.session_text.specs.declared.status.Status.TheVariants as status
+use Rattle.program_edge.specs.Lines.{Reader, ReadsLine, a_line, first_line, fresh, last_line, no_line, too_long, unread}
+use Rattle.program_edge.specs.declared.lines.NextLine.{NextLine}
+use Rattle.program_edge.specs.declared.lines.NextLine.TheVariants.{Line, Last, Long, End}
+use Rattle.program_edge.specs.declared.status.LineWhy.{LineWhy}
+use Rattle.program_edge.specs.declared.status.Status.{Status}
+use Rattle.program_edge.specs.declared.status.Status.TheVariants as status
 use Rattle.line_runs.specs.Output.{EndsAs, Ended, Read, SomeBytes, Telling, WholeLines, behind, next_number, read_by, read_from, read_in, stops}
 use Rattle.line_runs.specs.Steps.{Broke, Kept, Put, PutsText, StepOn, Steps, Stopped, TakesLine}
 use Rattle.line_runs.specs.declared.run.Step.{Step}

@@ -1,11 +1,11 @@
 -- How a run may end, also where its source and sink tell nothing.
 use Rattle.std.specs.Prelude.{ℕ}
-use Rattle.session_text.specs.Causes.{Rose}
-use Rattle.session_text.specs.declared.lines.ReadStop.{ReadStop}
-use Rattle.session_text.specs.declared.lines.ReadStop.TheVariants as read
-use Rattle.session_text.specs.declared.status.LineWhy.{LineWhy}
-use Rattle.session_text.specs.declared.status.Status.{Status}
-use Rattle.session_text.specs.declared.status.Status.TheVariants as status
+use Rattle.program_edge.specs.Causes.{Rose}
+use Rattle.program_edge.specs.declared.lines.ReadStop.{ReadStop}
+use Rattle.program_edge.specs.declared.lines.ReadStop.TheVariants as read
+use Rattle.program_edge.specs.declared.status.LineWhy.{LineWhy}
+use Rattle.program_edge.specs.declared.status.Status.{Status}
+use Rattle.program_edge.specs.declared.status.Status.TheVariants as status
 
 -- how a run ends where a line can't be read
 abbrev pub read_end : ReadStop → Status

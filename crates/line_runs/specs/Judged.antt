@@ -1,6 +1,6 @@
 -- The lines of an input that a run judges. Of a longer input only the first bytes, `limit` of them, are judged.
 use Rattle.std.specs.Prelude.{ℕ, Bool, true, List, [], ◌∷◌, length, take, if◌then◌else◌, nat_le}
-use Rattle.session_text.specs.Lines.{is_line_feed}
+use Rattle.program_edge.specs.Lines.{is_line_feed}
 
 -- The bytes of a line that are judged, and whether the line ends there: its line feed is one of the judged bytes, or the input ends with them.
 pub record Judged : Type 0 where

@@ -1,11 +1,11 @@
 -- What one line adds to a run, and what a run keeps from line to line.
 use Rattle.std.specs.Prelude.{◌≡◌, ℕ, ◌<◌, List, ◌∷◌, [], ◌++◌, take, Option, Some, None, Result, Ok, Err}
 use Rattle.std.specs.List.{concat}
-use Rattle.session_text.specs.declared.status.LineWhy.{LineWhy}
-use Rattle.session_text.specs.declared.stop.LineStop.{LineStop}
-use Rattle.session_text.specs.declared.stop.LineStop.TheVariants as stop
-use Rattle.session_text.specs.declared.status.Status.{Status}
-use Rattle.session_text.specs.declared.status.Status.TheVariants as status
+use Rattle.program_edge.specs.declared.status.LineWhy.{LineWhy}
+use Rattle.program_edge.specs.declared.stop.LineStop.{LineStop}
+use Rattle.program_edge.specs.declared.stop.LineStop.TheVariants as stop
+use Rattle.program_edge.specs.declared.status.Status.{Status}
+use Rattle.program_edge.specs.declared.status.Status.TheVariants as status
 use Rattle.line_runs.specs.Ends.{MayEnd}
 use Rattle.line_runs.specs.Output.{EndsAs, Read, Telling, behind, next_number, read_from}
 use Rattle.line_runs.specs.declared.run.Step.{Step}
@@ -24,7 +24,7 @@ MayStop reasons result = Unit {0}
 
 -- how a text was written: whole, or some of its first bytes
 abbrev pub PutsText : Option (List ℕ) → Option Status → List ℕ → Option (List ℕ) → Type 0
-PutsText None result text now = now ≡ None
+PutsText None result text now = Unit {0}
 PutsText (Some held) None text now = now ≡ Some (held ++ text)
 PutsText (Some held) (Some status.WriteFault) text now = (k : ℕ) × (now ≡ Some (held ++ take k text))
 PutsText (Some held) (Some s) text now = ⊥

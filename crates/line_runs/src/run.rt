@@ -1,16 +1,16 @@
 //! The run over an input of lines.
 ghost use Rattle.std.specs.Prelude.{◌≡◌, ◌≤◌, ◌∷◌, [], List, ℕ, Some, IfSome};
-ghost use Rattle.session_text.specs.Lines.{unread};
-ghost use Rattle.session_text.specs.Lines.FirstLine.{a_line, last_line, too_long};
-ghost use Rattle.session_text.specs.Lines.{first_line};
-ghost use Rattle.session_text.specs.declared.status.Status.{Status as StatusOf};
+ghost use Rattle.program_edge.specs.Lines.{unread};
+ghost use Rattle.program_edge.specs.Lines.FirstLine.{a_line, last_line, too_long};
+ghost use Rattle.program_edge.specs.Lines.{first_line};
+ghost use Rattle.program_edge.specs.declared.status.Status.{Status as StatusOf};
 ghost use Rattle.line_runs.specs.Ends.{IsLong, IsWriteFault, MayEnd, read_end};
 ghost use Rattle.line_runs.specs.Output.{EndsAs, Telling, end_after, next_number, read_from, read_in};
 ghost use Rattle.line_runs.specs.Steps.{IsShorter, MayStep, PutsText, Steps, TakesLine};
 
 use crate::taker::LineTaker;
 use gd_variant::OutOfMemory;
-use session_text::{LineReader, LineStop, NextLine, ReadStop, Sink, Source, Status, put_all};
+use program_edge::{LineReader, LineStop, NextLine, ReadStop, Sink, Source, Status, put_all};
 use std::alloc::Global;
 
 /// What a line comes to.

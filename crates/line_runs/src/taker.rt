@@ -1,12 +1,12 @@
 //! What a command makes of each line.
 ghost use Rattle.std.specs.Prelude.{◌≡◌, ◌+◌, ◌∷◌, ℕ, List, Result, length};
-ghost use Rattle.session_text.specs.declared.status.LineWhy.{LineWhy as LineWhyOf};
-ghost use Rattle.session_text.specs.declared.status.Status.{Status as StatusOf};
+ghost use Rattle.program_edge.specs.declared.status.LineWhy.{LineWhy as LineWhyOf};
+ghost use Rattle.program_edge.specs.declared.status.Status.{Status as StatusOf};
 ghost use Rattle.line_runs.specs.Ends.{MayEnd};
 ghost use Rattle.line_runs.specs.Steps.{MayStop, Takes};
 
 use gd_variant::Bytes;
-use session_text::{LineStop, Status};
+use program_edge::{LineStop, Status};
 use std::alloc::Global;
 
 /// A command that takes an input line by line.

@@ -5,7 +5,7 @@ use Rattle.std.specs.Str.{is_utf8, IsUtf8}
 use Rattle.std.proofs.lemmas.Str.{IsUtf8-from_is_utf8, is_utf8-from_IsUtf8}
 use Rattle.serde_json.specs.Data.{Data}
 use Rattle.serde_json.specs.Read.{read}
-use Rattle.session_text.specs.declared.status.LineWhy.TheVariants.{Json}
+use Rattle.program_edge.specs.declared.status.LineWhy.TheVariants.{Json}
 use Rattle.line_text.specs.Lines.{line_data}
 
 pub is_json : (b : List ℕ) (d : Data) → IsUtf8 b → read b ≡ Some d → line_data b ≡ Ok d

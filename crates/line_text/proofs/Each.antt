@@ -4,9 +4,9 @@ use Rattle.std.proofs.lemmas.List.{map_more, map-append, drop_more, take_all, ta
 use Rattle.serde_json.specs.Data.{Data}
 use Rattle.serde_json.specs.View.{view, items_of, items_view}
 use Rattle.serde_json.specs.declared.value.Value.{Value}
-use Rattle.session_text.specs.declared.status.LineWhy.{LineWhy}
-use Rattle.session_text.specs.declared.stop.LineStop.{LineStop}
-use Rattle.session_text.specs.declared.stop.LineStop.TheVariants as stops
+use Rattle.program_edge.specs.declared.status.LineWhy.{LineWhy}
+use Rattle.program_edge.specs.declared.stop.LineStop.{LineStop}
+use Rattle.program_edge.specs.declared.stop.LineStop.TheVariants as stops
 use Rattle.line_text.specs.Reading.{Reading, Fails, ◌>>=◌, each_read}
 
 -- these are what the first items give

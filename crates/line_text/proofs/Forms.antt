@@ -7,8 +7,8 @@ use Rattle.serde_json.proofs.Views.{Entry}
 use Rattle.gd_variant.specs.declared.value.Variant.{Variant}
 use Rattle.gd_variant.specs.declared.value.Pair.{Pair}
 use Rattle.gd_variant.specs.declared.value.Variant.TheViews.{roll-Pair}
-use Rattle.session_text.specs.declared.status.LineWhy.{LineWhy}
-use Rattle.session_text.specs.declared.status.LineWhy.TheVariants.{Shape}
+use Rattle.program_edge.specs.declared.status.LineWhy.{LineWhy}
+use Rattle.program_edge.specs.declared.status.LineWhy.TheVariants.{Shape}
 use Rattle.line_text.specs.Reading.{◌>>=◌, each_read}
 use Rattle.line_text.specs.Values.{entry_read, form_read, forms_read, keys_why, pair_read, pairs_read, tagged_read}
 

@@ -2,7 +2,7 @@
 use Rattle.std.proofs.Common.{◌≡◌, ◌<◌, ◌≤◌, List, [], ◌∷◌, length, Err, refl, arith}
 use Rattle.serde_json.specs.View.{items_view}
 use Rattle.serde_json.specs.declared.value.Value.{Value}
-use Rattle.session_text.specs.declared.status.LineWhy.TheVariants.{Shape}
+use Rattle.program_edge.specs.declared.status.LineWhy.TheVariants.{Shape}
 use Rattle.line_text.specs.Parts.{two_of, three_of}
 
 pub two_one : (vs : List Value) → 1 ≤ length vs → length vs < 2 → two_of (items_view vs) ≡ Err Shape

@@ -19,7 +19,7 @@ use Rattle.gd_variant.specs.Tree.{Tree, Trees, plain, nil, boolean as boolean_tr
 use Rattle.gd_variant.proofs.TreeOf.{plain_back}
 use Rattle.session_text.specs.Json.{hex_of, int_of, nat_of, tagged_of}
 use Rattle.session_text.specs.Values.{path_of, vector_of, opaque_of, pair_data, tree_data, trees_data, pairs_data}
-use Rattle.session_text.specs.declared.status.LineWhy.{LineWhy}
+use Rattle.program_edge.specs.declared.status.LineWhy.{LineWhy}
 use Rattle.line_text.specs.Reading.{Reading, ◌>>=◌, each_read}
 use Rattle.line_text.specs.Parts.{word_read, text_read, bool_read, nat_read, long_read, short_read, bytes_read, array_read, two_of, three_of, two_read, three_read, list_read, decoded}
 use Rattle.line_text.specs.Values.{path_read, ints_read, raw_read, run_read, flat_read, form_read, forms_read, pairs_read, value_read}

@@ -2,7 +2,7 @@
 use Rattle.std.proofs.Common.{◌≡◌, ◌<◌, ◌≤◌, List, [], ◌∷◌, length, Err, refl, arith}
 use Rattle.serde_json.specs.declared.value.Value.{Value}
 use Rattle.serde_json.specs.View.{items_view}
-use Rattle.session_text.specs.declared.status.LineWhy.TheVariants.{Shape}
+use Rattle.program_edge.specs.declared.status.LineWhy.TheVariants.{Shape}
 use Rattle.line_text.specs.Operations.{four_of}
 use Rattle.line_text.specs.Sessions.{none_of, one_of}
 

@@ -1,8 +1,8 @@
 -- Steps of which one fails.
 use Rattle.std.proofs.Common.{◌≡◌, Result, Ok, refl}
-use Rattle.session_text.specs.declared.status.LineWhy.{LineWhy}
-use Rattle.session_text.specs.declared.stop.LineStop.{LineStop}
-use Rattle.session_text.specs.declared.stop.LineStop.TheVariants as stops
+use Rattle.program_edge.specs.declared.status.LineWhy.{LineWhy}
+use Rattle.program_edge.specs.declared.stop.LineStop.{LineStop}
+use Rattle.program_edge.specs.declared.stop.LineStop.TheVariants as stops
 use Rattle.line_text.specs.Reading.{Fails, ◌>>=◌}
 
 -- a step that fails ends what follows

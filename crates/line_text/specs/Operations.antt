@@ -6,8 +6,8 @@ use Rattle.gd_variant.specs.Words.{has_text}
 use Rattle.scene_model.specs.declared.scene.Prop.{Prop}
 use Rattle.scene_model.specs.declared.event.Op.{Op}
 use Rattle.scene_model.specs.declared.event.Op.TheVariants as op
-use Rattle.session_text.specs.declared.status.LineWhy.{LineWhy}
-use Rattle.session_text.specs.declared.status.LineWhy.TheVariants.{Shape, Name, NotBuilt}
+use Rattle.program_edge.specs.declared.status.LineWhy.{LineWhy}
+use Rattle.program_edge.specs.declared.status.LineWhy.TheVariants.{Shape, Name, NotBuilt}
 use Rattle.line_text.specs.Reading.{Reading, ◌>>=◌}
 use Rattle.line_text.specs.Parts.{word_read, text_read, array_read, two_read, three_of, list_read}
 use Rattle.line_text.specs.Values.{value_read}

@@ -6,8 +6,8 @@ use Rattle.hex.specs.Hex.{decode_of}
 use Rattle.hex.specs.declared.error.FromHexError.{FromHexError}
 use Rattle.gd_variant.specs.Words.{has_text}
 use Rattle.gd_variant.specs.Sound.{has_no_zero, is_short}
-use Rattle.session_text.specs.declared.status.LineWhy.{LineWhy}
-use Rattle.session_text.specs.declared.status.LineWhy.TheVariants.{Shape, Name, Hex, Range}
+use Rattle.program_edge.specs.declared.status.LineWhy.{LineWhy}
+use Rattle.program_edge.specs.declared.status.LineWhy.TheVariants.{Shape, Name, Hex, Range}
 use Rattle.line_text.specs.Reading.{Reading, ◌>>=◌, each_read}
 
 -- any text

@@ -1,9 +1,9 @@
 -- Reading that may find something wrong, and what a function's answer has to do with it.
 use Rattle.std.specs.Prelude.{◌≡◌, List, [], ◌∷◌, Result, Ok, Err}
 use Rattle.serde_json.specs.Data.{Data, Items, no_items, item}
-use Rattle.session_text.specs.declared.status.LineWhy.{LineWhy}
-use Rattle.session_text.specs.declared.stop.LineStop.{LineStop}
-use Rattle.session_text.specs.declared.stop.LineStop.TheVariants as stops
+use Rattle.program_edge.specs.declared.status.LineWhy.{LineWhy}
+use Rattle.program_edge.specs.declared.stop.LineStop.{LineStop}
+use Rattle.program_edge.specs.declared.stop.LineStop.TheVariants as stops
 
 -- what is read of one JSON value
 abbrev pub Reading : Type 0 → Type 0

@@ -16,8 +16,8 @@ use Rattle.scene_model.specs.declared.scene.SceneDef.{SceneDef}
 use Rattle.scene_model.specs.declared.scene.Prop.{Prop}
 use Rattle.scene_model.specs.declared.scene.SceneBad.{SceneBad}
 use Rattle.scene_model.specs.Valid.{scene_bad}
-use Rattle.session_text.specs.declared.status.LineWhy.{LineWhy}
-use Rattle.session_text.specs.declared.status.LineWhy.TheVariants.{Shape, Scene as SceneWrong}
+use Rattle.program_edge.specs.declared.status.LineWhy.{LineWhy}
+use Rattle.program_edge.specs.declared.status.LineWhy.TheVariants.{Shape, Scene as SceneWrong}
 use Rattle.line_text.specs.Reading.{Reading, ◌>>=◌}
 use Rattle.line_text.specs.Lines.{line_data}
 use Rattle.line_text.specs.Parts.{text_read, bool_read, nat_read, short_read, two_read, three_read, list_read, object_read, needed, or_default}

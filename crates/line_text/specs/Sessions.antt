@@ -4,8 +4,8 @@ use Rattle.std.specs.Str.{bytes_eq}
 use Rattle.serde_json.specs.Data.{Data, Items, no_items, item}
 use Rattle.gd_variant.specs.Words.{has_text}
 use Rattle.scene_model.specs.declared.world.WorldEvent.TheVariants as event
-use Rattle.session_text.specs.declared.status.LineWhy.{LineWhy}
-use Rattle.session_text.specs.declared.status.LineWhy.TheVariants.{Shape, Name, NotBuilt}
+use Rattle.program_edge.specs.declared.status.LineWhy.{LineWhy}
+use Rattle.program_edge.specs.declared.status.LineWhy.TheVariants.{Shape, Name, NotBuilt}
 use Rattle.line_text.specs.declared.sessions.SessionLine.{SessionLine}
 use Rattle.line_text.specs.declared.sessions.SessionLine.TheVariants as line
 use Rattle.line_text.specs.Reading.{Reading, ◌>>=◌}

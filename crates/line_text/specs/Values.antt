@@ -6,8 +6,8 @@ use Rattle.gd_variant.specs.declared.value.Variant.{Variant}
 use Rattle.gd_variant.specs.declared.value.Variant.TheVariants as value
 use Rattle.gd_variant.specs.declared.value.Pair.{Pair}
 use Rattle.gd_variant.specs.Sound.{is_sound}
-use Rattle.session_text.specs.declared.status.LineWhy.{LineWhy}
-use Rattle.session_text.specs.declared.status.LineWhy.TheVariants.{Shape, Name, Range}
+use Rattle.program_edge.specs.declared.status.LineWhy.{LineWhy}
+use Rattle.program_edge.specs.declared.status.LineWhy.TheVariants.{Shape, Name, Range}
 use Rattle.line_text.specs.Reading.{Reading, ◌>>=◌}
 use Rattle.line_text.specs.Parts.{text_read, bool_read, nat_read, long_read, short_read, bytes_read, three_read, two_read, list_read, all_known}
 

@@ -7,8 +7,8 @@ use Rattle.scene_model.specs.declared.scene.ReplMode.{ReplMode}
 use Rattle.scene_model.specs.declared.scene.ReplMode.TheVariants.{Never, Always, OnChange}
 use Rattle.scene_model.specs.declared.scene.RpcMode.{RpcMode}
 use Rattle.scene_model.specs.declared.scene.RpcMode.TheVariants.{Disabled, AnyPeer, Authority}
-use Rattle.session_text.specs.declared.status.LineWhy.{LineWhy}
-use Rattle.session_text.specs.declared.status.LineWhy.TheVariants.{Name}
+use Rattle.program_edge.specs.declared.status.LineWhy.{LineWhy}
+use Rattle.program_edge.specs.declared.status.LineWhy.TheVariants.{Name}
 use Rattle.line_text.specs.Reading.{Reading, ◌>>=◌}
 use Rattle.line_text.specs.Parts.{word_read}
 

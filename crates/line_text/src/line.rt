@@ -4,7 +4,7 @@ ghost use Rattle.line_text.specs.Lines.{line_data};
 ghost use Rattle.line_text.specs.Reading.{Gives};
 
 use serde_json::Value;
-use session_text::{LineStop, LineWhy};
+use program_edge::{LineStop, LineWhy};
 use std::alloc::Global;
 
 /// The value that `serde_json` reads of a line. What it refuses for another cause than memory is no JSON.

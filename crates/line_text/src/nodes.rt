@@ -15,7 +15,7 @@ use crate::props::node_props_of;
 use crate::syncs::node_sync_of;
 use scene_model::{CustomDef, Node, NodeList, Role, SpawnerDef};
 use serde_json::{Map, Value};
-use session_text::{LineStop, LineWhy};
+use program_edge::{LineStop, LineWhy};
 use sqlite_items::Items;
 use std::alloc::Global;
 

@@ -14,7 +14,7 @@ use crate::values::value_of;
 use gd_variant::Text;
 use scene_model::{Op, Prop, PropList, SpawnOp};
 use serde_json::Value;
-use session_text::{LineStop, LineWhy};
+use program_edge::{LineStop, LineWhy};
 use sqlite_items::Items;
 use std::alloc::Global;
 

@@ -9,7 +9,7 @@ use crate::json::{array_of, member, pair_of, text_of};
 use crate::values::value_of;
 use scene_model::{Prop, PropList};
 use serde_json::{Map, Value};
-use session_text::LineStop;
+use program_edge::LineStop;
 use sqlite_items::Items;
 use std::alloc::Global;
 

@@ -15,7 +15,7 @@ use crate::syncs::syncs_of;
 use scene_check::check;
 use scene_model::{Scene, SceneDef, SceneList};
 use serde_json::Value;
-use session_text::{LineStop, LineWhy};
+use program_edge::{LineStop, LineWhy};
 use sqlite_items::Items;
 use std::alloc::Global;
 

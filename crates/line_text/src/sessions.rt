@@ -14,7 +14,7 @@ use crate::line::data_of;
 use crate::operations::{op_of, worded_of};
 use scene_model::WorldEvent;
 use serde_json::Value;
-use session_text::{LineStop, LineWhy};
+use program_edge::{LineStop, LineWhy};
 use std::alloc::Global;
 
 /// What a line of a session asks for.

@@ -10,7 +10,7 @@ use crate::words::repl_of;
 use gd_variant::Text;
 use scene_model::{SyncDef, SyncList, SyncProp, SyncPropList};
 use serde_json::{Map, Value};
-use session_text::LineStop;
+use program_edge::LineStop;
 use sqlite_items::Items;
 use std::alloc::Global;
 

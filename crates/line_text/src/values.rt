@@ -13,7 +13,7 @@ use crate::json::{
 };
 use gd_variant::{IntRun, IntsOf, NodePath, Opaque, Pair, Pairs, ValueList, Variant, is_sound};
 use serde_json::{Map, Value};
-use session_text::{LineStop, LineWhy};
+use program_edge::{LineStop, LineWhy};
 use sqlite_items::Items;
 use std::alloc::Global;
 

@@ -2,7 +2,7 @@
 use Rattle.std.specs.Prelude.{ℕ, Bool, false, ◌||◌, List, [], ◌∷◌, String, string_bytes, codes}
 use Rattle.std.specs.declared.alloc.Global.{Global}
 use Rattle.gd_variant.specs.Words.{text_eq}
-use Rattle.session_text.specs.declared.status.LineWhy.{LineWhy}
+use Rattle.program_edge.specs.declared.status.LineWhy.{LineWhy}
 
 -- whether the words are this one word
 abbrev pub is_the_word : List ℕ → List (String Global) → Bool

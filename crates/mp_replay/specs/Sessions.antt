@@ -9,12 +9,12 @@ use Rattle.world_model.specs.World.{World, world, world_answer, happened, is_in}
 use Rattle.world_model.specs.Replicas.{reported}
 use Rattle.session_text.specs.Outcomes.{outcome_lines}
 use Rattle.session_text.specs.Reports.{report_lines}
-use Rattle.session_text.specs.declared.status.LineWhy.{LineWhy}
-use Rattle.session_text.specs.declared.status.LineWhy.TheVariants as why
-use Rattle.session_text.specs.declared.stop.LineStop.{LineStop}
-use Rattle.session_text.specs.declared.stop.LineStop.TheVariants as stop
-use Rattle.session_text.specs.declared.status.Status.{Status}
-use Rattle.session_text.specs.declared.status.Status.TheVariants as status
+use Rattle.program_edge.specs.declared.status.LineWhy.{LineWhy}
+use Rattle.program_edge.specs.declared.status.LineWhy.TheVariants as why
+use Rattle.program_edge.specs.declared.stop.LineStop.{LineStop}
+use Rattle.program_edge.specs.declared.stop.LineStop.TheVariants as stop
+use Rattle.program_edge.specs.declared.status.Status.{Status}
+use Rattle.program_edge.specs.declared.status.Status.TheVariants as status
 use Rattle.line_text.specs.declared.sessions.SessionLine.{SessionLine}
 use Rattle.line_text.specs.declared.sessions.SessionLine.TheVariants as line
 use Rattle.line_text.specs.Scenes.{scene_line_read}

@@ -1,6 +1,6 @@
 //! What the words of the command line ask for.
 ghost use Rattle.std.specs.Prelude.{◌≡◌, ◌↔◌, List, ℕ, Some, true, false};
-ghost use Rattle.session_text.specs.declared.status.Status.TheVariants as status;
+ghost use Rattle.program_edge.specs.declared.status.Status.TheVariants as status;
 ghost use Rattle.line_runs.specs.Ends.{MayEnd};
 ghost use Rattle.line_runs.specs.Output.{EndsAs, read_in};
 ghost use Rattle.packet_show.specs.Shown.{IsHex, longest_line, most_judged, show_told};
@@ -13,7 +13,7 @@ use crate::words::{is_replay, is_show};
 use line_runs::run_lines;
 use mp_world::replicas_settle;
 use packet_show::show;
-use session_text::{Sink, Source, Status};
+use program_edge::{Sink, Source, Status};
 use std::alloc::Global;
 
 /// The most bytes of a line.

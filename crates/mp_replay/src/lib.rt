@@ -2,7 +2,9 @@
 #![tactic(auto)]
 
 mod commands;
+mod entry;
 mod session;
 mod words;
 
 pub use commands::run;
+pub use entry::program;

@@ -17,8 +17,9 @@ use gd_variant::{Bytes, OutOfMemory};
 use line_runs::LineTaker;
 use line_text::{SessionLine, read_event, read_scene};
 use mp_world::{ReportNo, World, WorldStop};
+use program_edge::{LineStop, LineWhy, Status};
 use scene_model::{Report, WorldEvent, WorldNo, WorldOutcome};
-use session_text::{LineStop, LineWhy, Status, outcome_text, report_text};
+use session_text::{outcome_text, report_text};
 use sqlite_items::Items;
 use std::alloc::Global;
 

@@ -11,10 +11,10 @@ use Rattle.hex.specs.declared.error.FromHexError.{FromHexError}
 use Rattle.hex.specs.declared.error.FromHexError.TheVariants as hex
 use Rattle.packet_codec.specs.Packets.{read_packet}
 use Rattle.session_text.specs.Messages.{bad_line, message_line}
-use Rattle.session_text.specs.declared.status.LineWhy.{LineWhy}
-use Rattle.session_text.specs.declared.status.LineWhy.TheVariants.{Hex}
-use Rattle.session_text.specs.declared.stop.LineStop.{LineStop}
-use Rattle.session_text.specs.declared.stop.LineStop.TheVariants as stops_line
+use Rattle.program_edge.specs.declared.status.LineWhy.{LineWhy}
+use Rattle.program_edge.specs.declared.status.LineWhy.TheVariants.{Hex}
+use Rattle.program_edge.specs.declared.stop.LineStop.{LineStop}
+use Rattle.program_edge.specs.declared.stop.LineStop.TheVariants as stops_line
 use Rattle.line_runs.specs.Steps.{MayStop}
 use Rattle.packet_show.specs.Shown.{IsHex, TextOf, packet_line, read_line, shown, shown_by, stop_of}
 

@@ -2,8 +2,8 @@
 ghost use Rattle.std.specs.Prelude.{◌≡◌, ◌≤◌, ◌<◌, ◌%◌, ◌++◌, ◌↔◌, List, [], ◌∷◌, ℕ, Some, None, IsTrue, is_ok, length, codes};
 ghost use Rattle.std.specs.List.{AllPass};
 ghost use Rattle.hex.specs.Hex.{is_hex_digit};
-ghost use Rattle.session_text.specs.declared.status.LineWhy.TheVariants as why;
-ghost use Rattle.session_text.specs.declared.status.Status.TheVariants as status;
+ghost use Rattle.program_edge.specs.declared.status.LineWhy.TheVariants as why;
+ghost use Rattle.program_edge.specs.declared.status.Status.TheVariants as status;
 ghost use Rattle.line_runs.specs.Output.{behind, read_in, stops};
 ghost use Rattle.packet_show.specs.Shown.{packet_line, show_told, shown};
 

@@ -5,7 +5,8 @@ ghost use Rattle.packet_show.specs.Shown.{TextOf, packet_line, stop_of};
 use gd_variant::{Bytes, OutOfMemory};
 use hex::FromHexError;
 use packet_codec::{CodecStop, decode_packet};
-use session_text::{LineStop, LineWhy, bad_text, message_text};
+use program_edge::{LineStop, LineWhy};
+use session_text::{bad_text, message_text};
 use std::alloc::Global;
 
 /// The text that shows a packet, or says why the bytes are none.

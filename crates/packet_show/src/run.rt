@@ -1,6 +1,6 @@
 //! The run over an input of packets.
 ghost use Rattle.std.specs.Prelude.{◌≡◌, List, ℕ, Some};
-ghost use Rattle.session_text.specs.declared.status.Status.TheVariants as status;
+ghost use Rattle.program_edge.specs.declared.status.Status.TheVariants as status;
 ghost use Rattle.line_runs.specs.Ends.{MayEnd};
 ghost use Rattle.line_runs.specs.Output.{EndsAs, read_in};
 ghost use Rattle.packet_show.specs.Shown.{IsHex, longest_line, most_judged, show_told};
@@ -8,7 +8,7 @@ ghost use Rattle.packet_show.specs.Shown.{IsHex, longest_line, most_judged, show
 use crate::lines::line_text;
 use gd_variant::Bytes;
 use line_runs::{LineTaker, run_lines};
-use session_text::{LineStop, Sink, Source, Status};
+use program_edge::{LineStop, Sink, Source, Status};
 use std::alloc::Global;
 
 /// The most bytes of a line.

@@ -1,7 +1,7 @@
 //! A session that is replayed over sources and sinks that give little or fail.
 use crate::rows::{check, is_row};
 use mp_replay::run;
-use session_text::{MemSink, MemSource};
+use program_edge::{MemSink, MemSource};
 use std::alloc::Global;
 
 /// The session of conformance/replay/one-spawn.in.

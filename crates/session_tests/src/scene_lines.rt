@@ -1,7 +1,7 @@
 //! A table of scene lines, each with what docs/FORMATS.md says of it, and scenes at the limits.
 use crate::rows::{check, is_row};
 use line_text::{LineStop, read_scene};
-use session_text::LineWhy;
+use program_edge::LineWhy;
 use std::alloc::Global;
 
 /// What a line is, and the line. A scene that isn't valid is told by its reason and its entry's place.

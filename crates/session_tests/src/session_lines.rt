@@ -3,7 +3,7 @@ use crate::rows::{check, is_row};
 use gd_variant::Variant;
 use line_text::{LineStop, SessionLine, read_event};
 use scene_model::{Op, PropList, SpawnOp, WorldEvent};
-use session_text::LineWhy;
+use program_edge::LineWhy;
 use std::alloc::Global;
 
 /// What a line asks for, and the line. A setting is its name and value behind an equals sign.

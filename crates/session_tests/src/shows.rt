@@ -2,14 +2,14 @@
 //! limits.
 ghost use Rattle.std.specs.Prelude.{◌≡◌, ◌∷◌, [], Ok, Err, if◌then◌else◌, nat_eq};
 ghost use Rattle.std.specs.List.{list_any};
-ghost use Rattle.session_text.specs.declared.status.LineWhy.TheVariants.{Hex};
-ghost use Rattle.session_text.specs.declared.status.Status.TheVariants as status;
+ghost use Rattle.program_edge.specs.declared.status.LineWhy.TheVariants.{Hex};
+ghost use Rattle.program_edge.specs.declared.status.Status.TheVariants as status;
 
 use crate::rows::{check, is_row, with_line_feeds};
 use gd_variant::Bytes;
 use line_runs::{LineTaker, run_lines};
 use packet_show::show;
-use session_text::{LineStop, LineWhy, MemSink, MemSource, Status};
+use program_edge::{LineStop, LineWhy, MemSink, MemSource, Status};
 use std::alloc::Global;
 
 /// Lines of packets, the last without a line feed.

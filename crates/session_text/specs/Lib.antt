@@ -1,7 +1,3 @@
-pub mod Causes
-pub mod Pieces
-pub mod Lines
-pub mod Statuses
 pub mod Json
 pub mod Values
 pub mod Reasons

@@ -1,5 +1,5 @@
 -- What the laws of a reader say of a decoder.
-use Rattle.std.proofs.Common.{◌≡◌, ℕ, ◌+◌, ◌-◌, ◌<◌, ◌≤◌, true, List, ◌++◌, length, take, Result, Ok, Err, refl, sym, ap, ap₂, subst, ◌∙◌, arith, inl, inr}
+use Rattle.std.proofs.Common.{◌≡◌, ℕ, ◌+◌, ◌-◌, ◌<◌, ◌≤◌, true, List, ◌++◌, length, take, Result, Ok, Err, refl, sym, ap, ap₂, subst, ◌∙◌, arith, ◌⊎◌, inl, inr}
 use Rattle.std.specs.Prelude.{◌&&◌, nat_le, IfOk}
 use Rattle.std.proofs.lemmas.Bool.{and_parts, and_from, le-leb, leb-true}
 use Rattle.std.proofs.lemmas.List.{length-append, take_at}
@@ -19,8 +19,8 @@ use Rattle.variant_codec.specs.Grammar.{Spells, SpellsSmall}
 use Rattle.variant_codec.specs.Written.{written, written_small}
 use Rattle.variant_codec.specs.Readers.{Reader, Relation, Breaking}
 use Rattle.variant_codec.specs.Reading.{value_at, small_at, most_levels}
-use Rattle.variant_codec.specs.Breaks.{Breaks, BreaksSmall}
-use Rattle.variant_codec.specs.Clauses.{Decodes, IsFound, Is, ReadsForms, ReadsWritten, FaultsRightly, ReadsFaults, NoneBeginsAnother, WritesForms}
+use Rattle.variant_codec.specs.Breaks.{Breaks, BreaksSmall, IsBad}
+use Rattle.variant_codec.specs.Clauses.{Begins, Decodes, IsFound, Is, OneFault, ReadsForms, ReadsWritten, FaultsRightly, ReadsFaults, NoneBeginsAnother, ValueOrFault, WritesForms}
 use Rattle.variant_codec.proofs.Laws.{IsReader}
 use Rattle.variant_codec.proofs.Whole.{value_reader}
 use Rattle.variant_codec.proofs.Small.{small_reader}
@@ -175,3 +175,53 @@ written_is t b s e = subst (Spells t) (sym e) (written_forms t s).0
 
 pub small_written_is : (t : Tree) (b : List ℕ) → is_sound_tree t ≡ true → b ≡ written_small t → SpellsSmall t b
 small_written_is t b s e = subst (SpellsSmall t) (sym e) (small_written_forms t s).0
+
+-- ---- a value or one fault
+
+-- a fault is what reading answers
+fault_read : {read : Reader Tree} {R : Relation Tree} {B : Breaking} → Codec read R B → (b : List ℕ) (bad : Bad) → (h : IsBad B b bad) → read b ≡ fails (fault (length h.rest) bad.why)
+fault_read codec b bad h = codec.law.broken b h.rest bad.why h.breaks
+
+-- a form is what reading answers
+form_read : {read : Reader Tree} {R : Relation Tree} {B : Breaking} → Codec read R B → (b : List ℕ) → (h : Begins R b) → read b ≡ ok (h.value, h.rest)
+form_read {read = read} codec b h = ap read h.parts ∙ codec.law.again h.value h.front h.rest ((sound_parts h.value h.sound).deep, h.form)
+
+value_read : {read : Reader Tree} {R : Relation Tree} {B : Breaking} → Codec read R B → (b : List ℕ) → IsBytes b → length b ≤ 8388608 → (x : Tree × List ℕ) → read b ≡ ok x → Begins R b × ((bad : Bad) → IsBad B b bad → ⊥)
+value_read codec b fits le x h =
+    let t = codec.law.takes b x fits h in
+    let total : length b ≡ length t.front + length x.1 = ap length t.parts ∙ length-append t.front x.1 in (
+      record {
+        value = x.0;
+        front = t.front;
+        rest = x.1;
+        parts = t.parts;
+        sound = sound x.0 (codec.right x.0 t.front t.right.1) t.right.0 (codec.fits x.0 t.front t.right.1 (omega (arith, total, le)));
+        form = t.right.1;
+      },
+      λ bad is. not_both x (fault (length is.rest) bad.why) (sym h ∙ fault_read codec b bad is),
+    )
+
+-- two faults that read alike stand at one place
+same_place : (b front rest front' rest' : List ℕ) → b ≡ front ++ rest → b ≡ front' ++ rest' → length rest ≡ length rest' → length front ≡ length front'
+same_place b front rest front' rest' e f same = omega (arith, ap length e, ap length f, length-append front rest, length-append front' rest', same)
+
+fault_only : {read : Reader Tree} {R : Relation Tree} {B : Breaking} → Codec read R B → (b : List ℕ) → IsBytes b → (f : Fault) → read b ≡ fails f → OneFault B b × (Begins R b → ⊥)
+fault_only {read} {R} {B} codec b fits f h =
+    let k = codec.law.breaks b f fits h in (
+      record {
+        bad = record { at = length k.front; why = f.why };
+        is = record { front = k.front; rest = k.rest; parts = k.parts; place = refl; breaks = k.breaks };
+        only = λ other is.
+            let g = same_fault f (fault (length is.rest) other.why) (sym h ∙ fault_read codec b other is) in
+            let rests : length is.rest ≡ length k.rest = sym (ap (λ (d : Fault). d.left) g) ∙ k.left in
+            same_bad other (record { at = length k.front; why = f.why }) (is.place ∙ same_place b is.front is.rest k.front k.rest is.parts k.parts rests) (sym (ap (λ (d : Fault). d.why) g));
+      },
+      λ v. not_both (v.value, v.rest) f (sym (form_read codec b v) ∙ h),
+    )
+
+read_by : {read : Reader Tree} {R : Relation Tree} {B : Breaking} → Codec read R B → (b : List ℕ) → IsBytes b → length b ≤ 8388608 → (r : Result (Tree × List ℕ) Fault) → read b ≡ r → (Begins R b × ((bad : Bad) → IsBad B b bad → ⊥)) ⊎ (OneFault B b × (Begins R b → ⊥))
+read_by codec b fits le (Ok x) h = inl (value_read codec b fits le x h)
+read_by codec b fits le (Err f) h = inr (fault_only codec b fits f h)
+
+pub value_or_fault : {read : Reader Tree} {R : Relation Tree} {B : Breaking} → Codec read R B → ValueOrFault R B
+value_or_fault {read = read} codec b fits le = read_by codec b fits le (read b) refl

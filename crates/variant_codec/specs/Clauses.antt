@@ -1,5 +1,6 @@
 -- What the contracts of the codec say.
 use Rattle.std.specs.Prelude.{◌≡◌, ℕ, ◌-◌, ◌≤◌, List, ◌++◌, length, take, Result, Ok, Err, ◌⊎◌, IsTrue}
+use Rattle.byte_fields.specs.Fields.{IsBytes}
 use Rattle.byte_fields.specs.declared.fault.Fault.{Fault}
 use Rattle.byte_fields.specs.declared.fault.CodecStop.{CodecStop}
 use Rattle.byte_fields.specs.declared.fault.CodecStop.TheVariants as stops
@@ -49,3 +50,22 @@ NoneBeginsAnother R = (t u : Tree) (a b x y : List ℕ) → IsTrue (is_sound_tre
 -- the written form of each sound tree is a form of it, and has the length that the size tells
 abbrev pub WritesForms : Relation Tree → (Tree → List ℕ) → (Tree → ℕ) → Type 0
 WritesForms R write size = (t : Tree) → IsTrue (is_sound_tree t) → R t (write t) × (length (write t) ≡ size t)
+
+-- the form of a sound value stands at the front of the bytes
+pub record Begins (R : Relation Tree) (b : List ℕ) : Type 0 where
+  pub value : Tree
+  pub front : List ℕ
+  pub rest : List ℕ
+  pub parts : b ≡ front ++ rest
+  pub sound : IsTrue (is_sound_tree value)
+  pub form : R value front
+
+-- the bytes have one fault, and no other
+pub record OneFault (B : Breaking) (b : List ℕ) : Type 0 where
+  pub bad : Bad
+  pub is : IsBad B b bad
+  pub only : (other : Bad) → IsBad B b other → other ≡ bad
+
+-- bytes begin with a value's form, or they have exactly one fault, and never both
+abbrev pub ValueOrFault : Relation Tree → Breaking → Type 0
+ValueOrFault R B = (b : List ℕ) → IsBytes b → length b ≤ 8388608 → (Begins R b × ((bad : Bad) → IsBad B b bad → ⊥)) ⊎ (OneFault B b × (Begins R b → ⊥))

@@ -7,7 +7,7 @@ ghost use Rattle.variant_codec.specs.Grammar.{Spells, SpellsSmall};
 ghost use Rattle.variant_codec.specs.Written.{written, written_small};
 ghost use Rattle.variant_codec.specs.Reading.{value_at, small_at, most_levels};
 ghost use Rattle.variant_codec.specs.Breaks.{Breaks, BreaksSmall};
-ghost use Rattle.variant_codec.specs.Clauses.{Decodes, IsFound, ReadsForms, ReadsWritten, FaultsRightly, ReadsFaults, NoneBeginsAnother, WritesForms};
+ghost use Rattle.variant_codec.specs.Clauses.{Decodes, IsFound, ReadsForms, ReadsWritten, FaultsRightly, ReadsFaults, NoneBeginsAnother, ValueOrFault, WritesForms};
 
 use crate::reading::{small_of, value_of};
 use crate::writing::{put, put_small};
@@ -110,4 +110,14 @@ pub fn written_form()
 /// What is written compressed is a compressed form, of the length that is told.
 pub fn written_small_form()
     ensures { WritesForms SpellsSmall written_small small_tree_size }
+{}
+
+/// Bytes begin with the binary form of a value, or they have exactly one fault, and never both.
+pub fn value_or_fault()
+    ensures { ValueOrFault Spells (Breaks most_levels) }
+{}
+
+/// Bytes begin with the compressed form of a value, or they have exactly one fault, and never both.
+pub fn small_value_or_fault()
+    ensures { ValueOrFault SpellsSmall BreaksSmall }
 {}

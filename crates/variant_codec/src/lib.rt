@@ -12,7 +12,8 @@ mod writing;
 
 pub use codec::{
     decode, decode_small, encode, encode_small, no_form_begins_another,
-    no_small_form_begins_another, written_form, written_small_form,
+    no_small_form_begins_another, small_value_or_fault, value_or_fault, written_form,
+    written_small_form,
 };
 pub use form::Form;
 pub use parts::{fault_at, is_without_zero, raw_of, text_of, utf8_of};

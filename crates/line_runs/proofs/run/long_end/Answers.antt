@@ -1,5 +1,5 @@
 use Rattle.std.proofs.Common.{ap, ◌∙◌, sym, refl, arith}
-use Rattle.session_text.specs.declared.status.Status.TheVariants as status
+use Rattle.program_edge.specs.declared.status.Status.TheVariants as status
 use Rattle.line_runs.specs.Output.{stops}
 use Rattle.line_runs.proofs.Reading.{long_reads, long_late}
 use Rattle.line_runs.proofs.Runs.{ended_here}

@@ -1,5 +1,5 @@
 use Rattle.std.proofs.Common.{arith, ap}
-use Rattle.session_text.specs.Lines.{Reader, unread}
+use Rattle.program_edge.specs.Lines.{Reader, unread}
 use Rattle.line_runs.specs.Output.{read_in}
 use Rattle.line_runs.proofs.Runs.{kept_ends, kept_first, kept_on, unread_fresh}
 use Rattle.line_runs.proofs.run.run_lines.Goals as goal

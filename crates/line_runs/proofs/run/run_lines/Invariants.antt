@@ -1,5 +1,5 @@
 use Rattle.std.proofs.Common.{◌≡◌, ◌≤◌, ◌+◌, List, [], ℕ, Some}
-use Rattle.session_text.specs.Lines.{unread}
+use Rattle.program_edge.specs.Lines.{unread}
 use Rattle.line_runs.specs.Output.{read_in}
 use Rattle.line_runs.specs.Steps.{Kept}
 use Rattle.line_runs.proofs.run.run_lines.Given as goal

@@ -1,5 +1,5 @@
 use Rattle.std.proofs.Common.{subst, sym, ap, ◌≡◌, ◌∙◌}
-use Rattle.session_text.specs.Lines.{first_line, last_line, unread}
+use Rattle.program_edge.specs.Lines.{first_line, last_line, unread}
 use Rattle.line_runs.specs.Output.{stops}
 use Rattle.line_runs.proofs.Reading.{end_reads}
 use Rattle.line_runs.proofs.Runs.{end_found, ended_so, ends_held, fed_found, fed_steps, last_found, long_found}

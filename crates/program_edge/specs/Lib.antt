@@ -1,0 +1,5 @@
+pub mod Causes
+pub mod Pieces
+pub mod Lines
+pub mod Statuses
+pub mod Memory
