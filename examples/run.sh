@@ -5,11 +5,11 @@
 #
 # SESSION is a file, or the name of a session of this folder: first (one spawn, what is played without a name) or
 # arena (two spawners, three scenes, a server and two clients).
-# It runs the proved program where one stands, and else the one that `rt try` makes.
+# It runs the program that GODOT_MP_CLI names, else the proved one where it stands, else one that `rt try` makes.
 set -u
 here=$(cd "$(dirname "$0")" && pwd)
 crate=$here/../crates/godot_mp_cli
-program=$crate/out/godot_mp_cli
+program=${GODOT_MP_CLI:-$crate/out/godot_mp_cli}
 session=${1:-first}
 if [ ! -f "$session" ] && [ -f "$here/$session.session" ]; then
     session=$here/$session.session
@@ -18,7 +18,7 @@ session=$(realpath -e -- "$session") || exit 2
 if [ -x "$program" ]; then
     exec "$program" replay < "$session"
 fi
-echo "no proved program stands yet ('rt ci' makes it): this is a run of an unproved one, which takes about a minute to make" >&2
+echo "no proved program stands yet ('rt ci' makes it): building an unproved one, which takes one to two minutes and is done at each run" >&2
 errors=$(mktemp)
 trap 'rm -f "$errors"' EXIT
 (cd "$crate" && rt try -- replay) < "$session" 2> "$errors"

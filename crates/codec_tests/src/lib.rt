@@ -1,17 +1,11 @@
-//! Tests of the codecs, over their public calls.
+//! What no line shows of the codecs: packets of each kind as they are written, and the numbers below them.
 #![tactic(auto)]
 
 #[cfg(test)]
 mod fields;
 #[cfg(test)]
-mod packets;
-#[cfg(test)]
 mod rows;
 #[cfg(test)]
-mod said;
-#[cfg(test)]
 mod sound;
-#[cfg(test)]
-mod values;
 #[cfg(test)]
 mod written_packets;

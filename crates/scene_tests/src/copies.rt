@@ -1,158 +1,112 @@
-//! Copies of events and of outcomes.
-use crate::scene_words::text;
-use gd_variant::{Bytes, Text, Variant};
-use scene_model::{Class, Effects, Event, Fault, Op, Out, OutList, Outcome, TryClone};
+//! Copies of scenes, events, packets and outcomes, with ample memory.
+use gd_variant::{Bytes, IntsOf, Text, Variant};
+use line_text::{SessionLine, read_event, read_scene};
+use scene_model::{
+    Class, Effects, Op, Out, OutList, Outcome, Prop, Scene, SceneDef, SceneWhy, TryClone,
+    WorldEvent, check,
+};
 use sqlite_items::Items;
 use std::alloc::Global;
 
-fn assignment_to(path: Text, prop: Text) -> Event {
-    Event::Op(Op::Set {
-        path,
-        prop,
-        value: Variant::Int(9),
-    })
+const SCENE: &[u8] =
+    br#"{"nodes":[{"path":"s","spawner":{"under":"s","scenes":["p"]}},{"path":"b","props":[["hp",10]]}],"scenes":[{"name":"p","props":[["v",0]],"methods":[],"syncs":[{"props":[["v","change",true]]}]}]}"#;
+
+/// Whether the copy of a scene is as valid, and has as many nodes and scenes.
+fn is_scene_copied(alloc: Global) -> Option<bool> {
+    let scene = read_scene(alloc, SCENE).ok()?;
+    let copy = scene.try_clone(alloc).ok()?;
+    Some(check(&copy).is_ok() && copy.nodes.len() == 2 && copy.scenes.len() == 1)
 }
 
-fn assignment(alloc: Global) -> Option<Event> {
-    let Some(path) = text(alloc, "a") else {
-        return None;
-    };
-    match text(alloc, "hp") {
-        Some(prop) => Some(assignment_to(path, prop)),
-        None => None,
-    }
-}
-
-fn is_assignment_of_9(event: &Event) -> bool {
-    match event {
-        Event::Op(Op::Set { value, .. }) => matches!(value, Variant::Int(9)),
+/// Whether an operation sets `hp` of `b`.
+fn is_assignment(op: &Op) -> bool {
+    match op {
+        Op::Set { path, prop, .. } => path.as_str() == "b" && prop.as_str() == "hp",
         _ => false,
     }
 }
 
-/// Whether the copy of an event is an assignment of 9.
-fn is_assignment_in_copy(alloc: Global, event: &Event) -> bool {
-    let Ok(copy) = event.try_clone(alloc) else {
-        return false;
-    };
-    let is_same = is_assignment_of_9(&copy);
-    drop(copy);
-    is_same
+/// Whether the copy of an operation is the same assignment.
+fn is_operation_copied(alloc: Global) -> Option<bool> {
+    match read_event(alloc, br#"["op",1,["set","b","hp",9]]"#).ok()? {
+        SessionLine::Event(WorldEvent::Op { op, .. }) => {
+            let copy = op.try_clone(alloc).ok()?;
+            Some(is_assignment(&copy))
+        }
+        _ => None,
+    }
 }
 
-fn is_event_copied(alloc: Global) -> bool {
-    let Some(event) = assignment(alloc) else {
-        return false;
-    };
-    let is_copied = is_assignment_in_copy(alloc, &event);
-    drop(event);
-    is_copied
-}
-
-fn packet(bytes: Bytes) -> Out {
-    Out {
+/// One packet of two bytes.
+fn packets(alloc: Global) -> Option<OutList> {
+    let mut packets: OutList = Items::new(alloc);
+    let packet = Out {
         link: 1,
         to: 2,
         class: Class::Ordered,
         tick: Some(7),
-        bytes,
-    }
-}
-
-fn packets(alloc: Global) -> Option<OutList> {
-    let Ok(bytes) = Bytes::from_slice(alloc, &[1, 2]) else {
-        return None;
+        bytes: Bytes::from_slice(alloc, &[1, 2]).ok()?,
     };
-    let mut packets: OutList = Items::new(alloc);
-    match packets.push(packet(bytes)) {
-        Ok(()) => Some(packets),
-        Err(_) => None,
-    }
+    packets.push(packet).ok()?;
+    Some(packets)
 }
 
-fn has_copy_one(alloc: Global, packets: &OutList) -> bool {
-    match packets.try_clone(alloc) {
-        Ok(copy) => copy.len() == 1,
-        Err(_) => false,
-    }
-}
-
-/// Whether the copy of one packet has one.
-fn is_packet_copied(alloc: Global) -> bool {
-    match packets(alloc) {
-        Some(packets) => has_copy_one(alloc, &packets),
-        None => false,
-    }
-}
-
-fn done(alloc: Global, packets: OutList) -> Outcome {
-    Outcome::Done(Effects {
+/// Whether the copy of an outcome that is done has its one packet, and the copy of that list too.
+fn is_outcome_copied(alloc: Global) -> Option<bool> {
+    let packets = packets(alloc)?;
+    let copy = packets.try_clone(alloc).ok()?;
+    let outcome = Outcome::Done(Effects {
         packets,
         runs: Items::new(alloc),
         raws: Items::new(alloc),
         skips: Items::new(alloc),
+    });
+    match outcome.try_clone(alloc).ok()? {
+        Outcome::Done(effects) => Some(effects.packets.len() == 1 && copy.len() == 1),
+        _ => None,
+    }
+}
+
+/// A scene whose property has a value of a kind that there is none of.
+fn unsound_scene(alloc: Global, name: Text, prop: Text) -> Option<Scene> {
+    let value = Variant::Ints(IntsOf {
+        code: 7,
+        items: Items::new(alloc),
+    });
+    let mut props = Items::new(alloc);
+    props.push(Prop { name: prop, value }).ok()?;
+    let def = SceneDef {
+        name,
+        props,
+        methods: Items::new(alloc),
+        syncs: Items::new(alloc),
+    };
+    let mut scenes = Items::new(alloc);
+    scenes.push(def).ok()?;
+    Some(Scene {
+        nodes: Items::new(alloc),
+        scenes,
     })
 }
 
-fn is_done_with_one(outcome: &Outcome) -> bool {
-    match outcome {
-        Outcome::Done(effects) => effects.packets.len() == 1,
-        _ => false,
-    }
-}
-
-/// Whether the copy of an outcome is done with one packet.
-fn is_done_in_copy(alloc: Global, outcome: &Outcome) -> bool {
-    let Ok(copy) = outcome.try_clone(alloc) else {
-        return false;
-    };
-    let is_same = is_done_with_one(&copy);
-    drop(copy);
-    is_same
-}
-
-fn is_done_copied(alloc: Global) -> bool {
-    let Some(packets) = packets(alloc) else {
-        return false;
-    };
-    let outcome = done(alloc, packets);
-    let is_copied = is_done_in_copy(alloc, &outcome);
-    drop(outcome);
-    is_copied
-}
-
-fn is_fault_of_a(outcome: &Outcome) -> bool {
-    match outcome {
-        Outcome::Fault(Fault::NameDiffers { kept }) => kept.as_str() == "a",
-        _ => false,
-    }
-}
-
-/// Whether the copy of an outcome is the fault of `a`.
-fn is_fault_in_copy(alloc: Global, outcome: &Outcome) -> bool {
-    let Ok(copy) = outcome.try_clone(alloc) else {
-        return false;
-    };
-    let is_same = is_fault_of_a(&copy);
-    drop(copy);
-    is_same
-}
-
-fn is_fault_copied(alloc: Global) -> bool {
-    let Some(kept) = text(alloc, "a") else {
-        return false;
-    };
-    let outcome = Outcome::Fault(Fault::NameDiffers { kept });
-    let is_copied = is_fault_in_copy(alloc, &outcome);
-    drop(outcome);
-    is_copied
+/// Why such a scene isn't valid.
+fn reason_against_it(alloc: Global) -> Option<SceneWhy> {
+    let mut scene = read_scene(alloc, SCENE).ok()?;
+    let name = scene.scenes.pop()?.name;
+    let prop = name.try_clone(alloc).ok()?;
+    let scene = unsound_scene(alloc, name, prop)?;
+    Some(check(&scene).err()?.why)
 }
 
 #[test]
-fn events_and_outcomes_are_copied(rt: HostRuntime) {
+fn an_unsound_value_is_too_long(rt: HostRuntime) {
+    assert!(rt; reason_against_it(rt.alloc()) == Some(SceneWhy::ValueLong));
+}
+
+#[test]
+fn copies_are_the_same(rt: HostRuntime) {
     let alloc = rt.alloc();
-    assert!(rt; is_event_copied(alloc));
-    assert!(rt; is_packet_copied(alloc));
-    assert!(rt; is_done_copied(alloc));
-    assert!(rt; is_fault_copied(alloc));
+    assert_eq!(rt; is_scene_copied(alloc), Some(true));
+    assert_eq!(rt; is_operation_copied(alloc), Some(true));
+    assert_eq!(rt; is_outcome_copied(alloc), Some(true));
 }

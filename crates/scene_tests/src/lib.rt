@@ -1,11 +1,7 @@
-//! Tests of scenes and of the tree of nodes, over their public calls.
+//! What no line shows of scenes and trees: copies, and the calls of a tree that no session makes.
 #![tactic(auto)]
 
 #[cfg(test)]
 mod copies;
-#[cfg(test)]
-mod scene_answers;
-#[cfg(test)]
-mod scene_words;
 #[cfg(test)]
 mod tree_calls;

@@ -3,12 +3,13 @@
 //! A line of a script is a call of the tree and, behind the arrow, its answer as it is printed. `add` and
 //! `are_new` have an authority and a number, and the id is the number with 1024 added; `row_at` answers
 //! the number of the row, `rows` the authority, number and path of each, and `scene` how many nodes the
-//! scene has. A value is an integer, or `7*` and how many bytes 7. Each script begins with a fresh tree.
-use crate::scene_words::{is_without_zero, scene_of, sevens};
+//! scene has. Each script begins with a fresh tree. Sessions show the calls that they make.
+ghost use Rattle.std.specs.Prelude.{◌≡◌};
+ghost use Rattle.gd_variant.specs.Sound.{has_no_zero};
+
 use gd_variant::{IdList, Variant};
 use headless_tree::{Tree, TreeNo};
-use scene_check::check;
-use scene_model::{Row, Scene};
+use line_text::read_scene;
 use sqlite_items::Items;
 use std::alloc::Global;
 use std::fmt::{Debug, Write};
@@ -16,7 +17,8 @@ use std::process::Abort;
 
 /// The nodes `s`, which spawns the scene `p` below itself, and `b` with `hp` 10. The scene has `v` 0
 /// and one synchronizer.
-const SCENE: &str = "n:s s:s=p n:b v:hp=10 d:p v:v y:=";
+const SCENE: &[u8] =
+    br#"{"nodes":[{"path":"s","spawner":{"under":"s","scenes":["p"]}},{"path":"b","props":[["hp",10]]}],"scenes":[{"name":"p","props":[["v",0]],"methods":[],"syncs":[{"props":[]}]}]}"#;
 
 const ROWS: &str = r#"
 add s z 2 1 -> Ok(())
@@ -39,19 +41,12 @@ rows -> 1 0 s;1 0 b;2 1 s/z;
 scene -> 2
 "#;
 
-const VALUES: &str = r#"
+const PLACES: &str = r#"
 add s z 2 1 -> Ok(())
 add s p2 1 3 -> Ok(())
 add s p1 1 1 -> Ok(())
-get b hp -> Some(10)
 get s/p1 v -> Some(0)
 get s/p1 hp -> None
-assign s/p1 v 5 -> Ok(())
-assign q v 5 -> Err(NoNode)
-assign s v 5 -> Err(NoProp)
-assign b hp 5 -> Ok(())
-get s/p1 v -> Some(5)
-get s/p2 v -> Some(0)
 assign_at 3 0 7 -> Ok(())
 assign_at 5 0 7 -> Err(NoNode)
 assign_at 3 1 7 -> Err(NoProp)
@@ -60,14 +55,6 @@ row_at 3 -> Some(3)
 row_at 5 -> None
 node_at s/p1 -> true
 node_at p1 -> false
-assign b hp 7*65528 -> Ok(())
-assign b hp 7*65529 -> Err(ValueTooLong)
-"#;
-
-const FIXED: &str = r#"
-add s z 2 1 -> Ok(())
-add s p2 1 3 -> Ok(())
-add s p1 1 1 -> Ok(())
 fixed_place s -> Some(0)
 fixed_place b -> Some(1)
 fixed_place s/p1 -> None
@@ -106,17 +93,10 @@ row_of 1 1027 -> None
 row_of 2 1 -> Some(2)
 "#;
 
-fn tree(alloc: Global, scene: &Scene) -> Option<Tree> {
-    match check(scene) {
-        Ok(()) => Tree::new(alloc, scene).ok(),
-        Err(_) => None,
-    }
-}
-
 fn fresh(alloc: Global) -> Option<Tree> {
-    match scene_of(alloc, SCENE) {
-        Some(scene) => tree(alloc, &scene),
-        None => None,
+    match read_scene(alloc, SCENE) {
+        Ok(scene) => Tree::new(alloc, &scene).ok(),
+        Err(_) => None,
     }
 }
 
@@ -160,74 +140,44 @@ fn are_new(alloc: Global, tree: &Tree, words: &str) -> Option<bool> {
     }
 }
 
-/// Adds a node of the first scene, where its number and its id are new.
-fn insert(
-    alloc: Global,
-    tree: &mut Tree,
-    under: &str,
-    name: &str,
-    number: (i32, u32),
-    ids: &IdList,
-) -> Option<Result<(), TreeNo>> {
-    if !is_without_zero(under.as_bytes()) || !is_without_zero(name.as_bytes()) {
-        return None;
-    }
-    if tree.scene().scenes.len() == 0 || !tree.are_new(number.0, number.1, ids) {
-        return None;
-    }
-    Some(tree.insert(alloc, under, name, number.0, number.1, ids, 0))
+fn is_without_zero(bytes: &[u8]) -> bool
+    ensures { result ≡ has_no_zero bytes.now }
+{
+    bytes.iter().all(|byte| *byte != 0)
 }
 
+/// Adds a node of the first scene, where its number and its id are new.
 fn add(alloc: Global, tree: &mut Tree, words: &str) -> Option<Result<(), TreeNo>> {
     let (under, words) = first(words);
     let (name, words) = first(words);
+    if !is_without_zero(under.as_bytes()) || !is_without_zero(name.as_bytes()) {
+        return None;
+    }
     let Some(number) = number(words) else {
         return None;
     };
-    match ids(alloc, number.1) {
-        Some(ids) => insert(alloc, tree, under, name, number, &ids),
-        None => None,
-    }
-}
-
-fn value(alloc: Global, word: &str) -> Option<Variant> {
-    match word.strip_prefix("7*") {
-        Some(count) => sevens(alloc, count),
-        None => match word.parse() {
-            Ok(number) => Some(Variant::Int(number)),
-            Err(_) => None,
-        },
-    }
-}
-
-fn assign(alloc: Global, tree: &mut Tree, words: &str) -> Option<Result<(), TreeNo>> {
-    let (path, words) = first(words);
-    let (prop, word) = first(words);
-    match value(alloc, word) {
-        Some(value) => Some(tree.assign(path, prop, value)),
-        None => None,
-    }
-}
-
-/// The places of a node and of its property.
-fn places(place: &str, prop: &str) -> Option<(usize, usize)> {
-    match place.parse() {
-        Ok(place) => match prop.parse() {
-            Ok(prop) => Some((place, prop)),
-            Err(_) => None,
-        },
-        Err(_) => None,
-    }
-}
-
-fn assign_at(alloc: Global, tree: &mut Tree, words: &str) -> Option<Result<(), TreeNo>> {
-    let (place, words) = first(words);
-    let (prop, word) = first(words);
-    let Some((place, prop)) = places(place, prop) else {
+    let Some(ids) = ids(alloc, number.1) else {
         return None;
     };
-    match value(alloc, word) {
-        Some(value) => Some(tree.assign_at(place, prop, value)),
+    if tree.scene().scenes.len() == 0 || !tree.are_new(number.0, number.1, &ids) {
+        return None;
+    }
+    Some(tree.insert(alloc, under, name, number.0, number.1, &ids, 0))
+}
+
+/// The places of a node and of its property, and a number.
+fn places(words: &str) -> Option<(usize, usize, i64)> {
+    let (place, words) = first(words);
+    let (prop, value) = first(words);
+    match (place.parse(), prop.parse(), value.parse()) {
+        (Ok(place), Ok(prop), Ok(value)) => Some((place, prop, value)),
+        _ => None,
+    }
+}
+
+fn assign_at(tree: &mut Tree, words: &str) -> Option<Result<(), TreeNo>> {
+    match places(words) {
+        Some((place, prop, value)) => Some(tree.assign_at(place, prop, Variant::Int(value))),
         None => None,
     }
 }
@@ -270,21 +220,17 @@ fn row_at(tree: &Tree, place: &str) -> Option<Option<u32>> {
 }
 
 /// Authority, number and path of each row.
-fn shape(alloc: Global, rows: &[Row]) -> Option<String> {
+fn rows(alloc: Global, tree: &Tree) -> Option<String> {
+    let Ok(rows) = tree.rows(alloc) else {
+        return None;
+    };
     let mut shape = String::new(alloc);
-    for row in rows {
+    for row in rows.as_slice() {
         if write!(shape, "{} {} {};", row.auth, row.num, row.path.as_str()).is_err() {
             return None;
         }
     }
     Some(shape)
-}
-
-fn rows(alloc: Global, tree: &Tree) -> Option<String> {
-    match tree.rows(alloc) {
-        Ok(rows) => shape(alloc, rows.as_slice()),
-        Err(_) => None,
-    }
 }
 
 /// What a call answers that only looks.
@@ -306,27 +252,22 @@ fn answer_of_look(alloc: Global, tree: &Tree, call: &str, words: &str) -> Option
 fn answer_of(alloc: Global, tree: &mut Tree, call: &str, words: &str) -> Option<String> {
     match call {
         "add" => shown(alloc, add(alloc, tree, words)),
-        "assign" => shown(alloc, assign(alloc, tree, words)),
-        "assign_at" => shown(alloc, assign_at(alloc, tree, words)),
+        "assign_at" => shown(alloc, assign_at(tree, words)),
         "remove" => shown(alloc, Some(tree.remove(words))),
         "remove_under" => shown(alloc, remove_under(tree, words)),
         _ => answer_of_look(alloc, tree, call, words),
     }
 }
 
-fn is_answered(alloc: Global, tree: &mut Tree, call: &str, want: &str) -> bool {
+/// Whether a line is empty, or tells what its call answers.
+fn is_as_told(alloc: Global, tree: &mut Tree, line: &str) -> bool {
+    let Some((call, want)) = line.split_once(" -> ") else {
+        return line.is_empty();
+    };
     let (call, words) = first(call);
     match answer_of(alloc, tree, call, words) {
         Some(answer) => answer.as_str() == want,
         None => false,
-    }
-}
-
-/// Whether a line is empty, or tells what its call answers.
-fn is_as_told(alloc: Global, tree: &mut Tree, line: &str) -> bool {
-    match line.split_once(" -> ") {
-        Some((call, want)) => is_answered(alloc, tree, call, want),
-        None => line.is_empty(),
     }
 }
 
@@ -353,13 +294,8 @@ fn rows_stand_by_authority_and_number(rt: HostRuntime) {
 }
 
 #[test]
-fn values_are_assigned_where_they_fit(rt: HostRuntime) {
-    follow(&rt, rt.alloc(), VALUES);
-}
-
-#[test]
-fn fixed_nodes_and_scenes_are_found_by_name(rt: HostRuntime) {
-    follow(&rt, rt.alloc(), FIXED);
+fn nodes_are_found_by_place_and_name(rt: HostRuntime) {
+    follow(&rt, rt.alloc(), PLACES);
 }
 
 #[test]

@@ -1,23 +1,13 @@
-//! Tests of lines, peers, worlds and runs, over their public calls.
+//! What no line shows: sources that give little or fail, sinks that fail, small limits, and a spent peer.
 #![tactic(auto)]
 
 #[cfg(test)]
-mod line_readers;
+mod faults;
 #[cfg(test)]
-mod packet_lines;
+mod limits;
+#[cfg(test)]
+mod line_readers;
 #[cfg(test)]
 mod peers;
 #[cfg(test)]
-mod replays;
-#[cfg(test)]
 mod rows;
-#[cfg(test)]
-mod scene_lines;
-#[cfg(test)]
-mod session_lines;
-#[cfg(test)]
-mod shows;
-#[cfg(test)]
-mod values_in_lines;
-#[cfg(test)]
-mod worlds;

@@ -1,7 +1,7 @@
 //! A reader of lines over a source that gives little or fails, or has a line that is too long; and bytes
 //! that are put into a sink.
-use crate::rows::{check, is_row, with_line_feeds};
-use program_edge::{LineReader, MemSink, MemSource, NextLine, ReadStop, SureSink, put_all};
+use crate::rows::{check, with_line_feeds};
+use session_text::{LineReader, MemSink, MemSource, NextLine, ReadStop, SureSink, put_all};
 use std::alloc::Global;
 
 /// What a reader answers; the most bytes of a line, the most bytes that one call of its source gives, and
@@ -9,8 +9,7 @@ use std::alloc::Global;
 ///
 /// An answer is a line's length, behind a dot where the line has no line feed; `L` is a line that is too
 /// long, `e` the end, `f` a failure. After `L` and `e` the reader isn't asked again.
-const READS: &str = "
-e: 4 9 0:
+const READS: &str = "e: 4 9 0:
 0e: 4 9 0:/
 20.3e: 4 9 0:ab//abc
 203e: 4 1 0:ab//abc/
@@ -18,16 +17,7 @@ f24.1e: 4 1 2:ab/abcd/x
 2L: 4 3 0:ab/abcde
 2L: 4 99 0:ab/abcde/x
 f2.4e: 4 99 1:ab/abcd
-f.4e: 4 2 3:abcd
-";
-
-fn source_of(alloc: Global, piece: usize, failing: u64, text: &str) -> Option<MemSource> {
-    if piece == 0 {
-        return None;
-    }
-    let calls = vec![in alloc; failing].ok()?;
-    Some(MemSource::new(with_line_feeds(alloc, text)?, piece, calls))
-}
+f.4e: 4 2 3:abcd";
 
 /// What a reader answers.
 fn answer(alloc: Global, next: Result<NextLine, ReadStop>) -> Option<String> {
@@ -61,9 +51,12 @@ fn told(alloc: Global, row: &str) -> Option<(&str, String)> {
     let (numbers, text) = rest.split_once(':')?;
     let (most, numbers) = numbers.split_once(' ')?;
     let (piece, failing) = numbers.split_once(' ')?;
-    let piece = piece.parse().ok()?;
-    let failing = failing.parse().ok()?;
-    let mut source = source_of(alloc, piece, failing, text)?;
+    let piece: usize = piece.parse().ok()?;
+    if piece == 0 {
+        return None;
+    }
+    let failing = vec![in alloc; failing.parse().ok()?].ok()?;
+    let mut source = MemSource::new(with_line_feeds(alloc, text)?, piece, failing);
     let told = answers(alloc, most.parse().ok()?, &mut source)?;
     Some((want, told))
 }
@@ -71,9 +64,7 @@ fn told(alloc: Global, row: &str) -> Option<(&str, String)> {
 #[test]
 fn reads_lines(rt: HostRuntime) {
     for row in READS.lines() {
-        if is_row(row) {
-            check(&rt, row, told(rt.alloc(), row));
-        }
+        check(&rt, row, told(rt.alloc(), row));
     }
 }
 

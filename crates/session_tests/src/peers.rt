@@ -1,29 +1,21 @@
-//! A peer of an empty scene: its links, its report, and that it says when it is spent. Spawns and
-//! assignments are run by the sessions of `conformance/`.
-use gd_variant::OutOfMemory;
+//! A peer of an empty scene: its links, its report, and that it says when it is spent. The sessions of
+//! `conformance/` run all else.
+use line_text::read_scene;
 use peer_core::Peer;
-use scene_check::check;
-use scene_model::{Event, Outcome, Scene};
-use sqlite_items::Items;
+use scene_model::{Event, Outcome};
 use std::alloc::Global;
+use std::test::*;
 
-fn server(alloc: Global) -> Result<Peer, OutOfMemory> {
-    let scene = Scene {
-        nodes: Items::new(alloc),
-        scenes: Items::new(alloc),
-    };
-    match check(&scene) {
-        Ok(()) => Peer::new(alloc, 1, &scene),
-        Err(_) => Err(OutOfMemory),
+fn server(alloc: Global) -> Option<Peer> {
+    match read_scene(alloc, br#"{"nodes":[],"scenes":[]}"#) {
+        Ok(scene) => Peer::new(alloc, 1, &scene).ok(),
+        Err(_) => None,
     }
 }
 
-fn comes_up(alloc: Global, peer: &mut Peer, other: i32) -> bool {
-    matches!(peer.step(alloc, Event::Up(other)), Ok(Outcome::Done(_)))
-}
-
-fn goes_down(alloc: Global, peer: &mut Peer, other: i32) -> bool {
-    matches!(peer.step(alloc, Event::Down(other)), Ok(Outcome::Done(_)))
+/// Whether a link event happens at a peer.
+fn happens(alloc: Global, peer: &mut Peer, event: Event) -> bool {
+    matches!(peer.step(alloc, event), Ok(Outcome::Done(_)))
 }
 
 /// How many peers are up, where the peer isn't spent.
@@ -35,26 +27,19 @@ fn count_up(alloc: Global, peer: &Peer) -> Option<usize> {
 }
 
 #[test]
-fn links_come_up_once(rt: HostRuntime) -> Result<(), OutOfMemory> {
+fn links_come_up_once_until_a_peer_is_spent(rt: HostRuntime) -> Result<(), Fail> {
     let alloc = rt.alloc();
-    let mut peer = server(alloc)?;
-    assert!(rt; !comes_up(alloc, &mut peer, 1));
-    assert!(rt; comes_up(alloc, &mut peer, 2));
-    assert!(rt; !comes_up(alloc, &mut peer, 2));
+    let mut peer = server(alloc).ok_or("there is memory")?;
+    assert!(rt; !happens(alloc, &mut peer, Event::Up(1)));
+    assert!(rt; happens(alloc, &mut peer, Event::Up(2)));
+    assert!(rt; !happens(alloc, &mut peer, Event::Up(2)));
     assert_eq!(rt; count_up(alloc, &peer), Some(1));
-    assert!(rt; goes_down(alloc, &mut peer, 2));
-    assert!(rt; !comes_up(alloc, &mut peer, 2));
+    assert!(rt; happens(alloc, &mut peer, Event::Down(2)));
+    assert!(rt; !happens(alloc, &mut peer, Event::Up(2)));
     assert_eq!(rt; count_up(alloc, &peer), Some(0));
-    Ok(())
-}
-
-#[test]
-fn a_spent_peer_says_so(rt: HostRuntime) -> Result<(), OutOfMemory> {
-    let alloc = rt.alloc();
-    let mut peer = server(alloc)?;
     peer.give_up();
     assert!(rt; peer.is_spent());
-    assert!(rt; !comes_up(alloc, &mut peer, 2));
+    assert!(rt; !happens(alloc, &mut peer, Event::Up(3)));
     assert_eq!(rt; count_up(alloc, &peer), None);
     Ok(())
 }

@@ -1,11 +1,6 @@
-//! Tables of text: each line is a row, but for empty lines and headings, which begin with `#`.
+//! Tables of text, in which each line is a row.
 use std::alloc::Global;
 use std::process::Abort;
-
-/// Whether a line of a table is a row.
-pub fn is_row(line: &str) -> bool {
-    !line.is_empty() && !line.starts_with('#')
-}
 
 /// Of a row, what it wants and what was told. Nothing stands for a row that can't be read.
 pub fn check(rt: &impl Abort, row: &str, found: Option<(&str, String)>) {
