@@ -11,8 +11,8 @@ ghost use Rattle.line_text.specs.Parts.{all_known, array_read, bool_read, bytes_
 
 use gd_variant::{Bytes, List32, List64, Text, TextRun};
 use hex::FromHexError;
-use serde_json::{Map, Value};
 use program_edge::{LineStop, LineWhy};
+use serde_json::{Map, Value};
 use sqlite_items::Items;
 use std::alloc::Global;
 

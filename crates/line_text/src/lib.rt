@@ -16,7 +16,7 @@ mod syncs;
 mod values;
 mod words;
 
-pub use scenes::read_scene;
 pub use program_edge::LineStop;
+pub use scenes::read_scene;
 pub use sessions::{SessionLine, read_event, written_lines_are_read};
 pub use values::{value_of, values_of, written_values_are_read};

@@ -3,8 +3,8 @@ ghost use Rattle.serde_json.specs.View.{view};
 ghost use Rattle.line_text.specs.Lines.{line_data};
 ghost use Rattle.line_text.specs.Reading.{Gives};
 
-use serde_json::Value;
 use program_edge::{LineStop, LineWhy};
+use serde_json::Value;
 use std::alloc::Global;
 
 /// The value that `serde_json` reads of a line. What it refuses for another cause than memory is no JSON.

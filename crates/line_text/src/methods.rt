@@ -7,9 +7,9 @@ ghost use Rattle.line_text.specs.Scenes.{method_read, sets_read};
 
 use crate::json::{array_of, bool_of, key_of, member, nat_of, object_of, pair_of, text_of};
 use crate::words::{class_of, rpc_of};
+use program_edge::LineStop;
 use scene_model::{Method, MethodList, Sets};
 use serde_json::{Map, Value};
-use program_edge::LineStop;
 use sqlite_items::Items;
 use std::alloc::Global;
 

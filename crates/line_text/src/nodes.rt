@@ -13,9 +13,9 @@ use crate::json::{
 use crate::methods::node_methods_of;
 use crate::props::node_props_of;
 use crate::syncs::node_sync_of;
+use program_edge::{LineStop, LineWhy};
 use scene_model::{CustomDef, Node, NodeList, Role, SpawnerDef};
 use serde_json::{Map, Value};
-use program_edge::{LineStop, LineWhy};
 use sqlite_items::Items;
 use std::alloc::Global;
 

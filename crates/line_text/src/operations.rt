@@ -12,9 +12,9 @@ ghost use Rattle.line_text.specs.Operations.{first_of, four_of, later_ops, op_by
 use crate::json::{array_of, pair_of, text_of, three_of, word_of};
 use crate::values::value_of;
 use gd_variant::Text;
+use program_edge::{LineStop, LineWhy};
 use scene_model::{Op, Prop, PropList, SpawnOp};
 use serde_json::Value;
-use program_edge::{LineStop, LineWhy};
 use sqlite_items::Items;
 use std::alloc::Global;
 

@@ -7,9 +7,9 @@ ghost use Rattle.line_text.specs.Scenes.{prop_read};
 
 use crate::json::{array_of, member, pair_of, text_of};
 use crate::values::value_of;
+use program_edge::LineStop;
 use scene_model::{Prop, PropList};
 use serde_json::{Map, Value};
-use program_edge::LineStop;
 use sqlite_items::Items;
 use std::alloc::Global;
 

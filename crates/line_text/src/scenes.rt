@@ -12,10 +12,10 @@ use crate::methods::methods_of;
 use crate::nodes::nodes_of;
 use crate::props::props_of;
 use crate::syncs::syncs_of;
+use program_edge::{LineStop, LineWhy};
 use scene_check::check;
 use scene_model::{Scene, SceneDef, SceneList};
 use serde_json::Value;
-use program_edge::{LineStop, LineWhy};
 use sqlite_items::Items;
 use std::alloc::Global;
 

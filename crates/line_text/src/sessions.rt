@@ -12,9 +12,9 @@ ghost use Rattle.line_text.specs.Sessions.{at_peer_read, connect_read, later_lin
 use crate::json::{nat_of, two_of};
 use crate::line::data_of;
 use crate::operations::{op_of, worded_of};
+use program_edge::{LineStop, LineWhy};
 use scene_model::WorldEvent;
 use serde_json::Value;
-use program_edge::{LineStop, LineWhy};
 use std::alloc::Global;
 
 /// What a line of a session asks for.

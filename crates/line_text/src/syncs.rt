@@ -8,9 +8,9 @@ ghost use Rattle.line_text.specs.Scenes.{node_sync_read, scene_sync_read, sync_o
 use crate::json::{array_of, bool_of, key_of, member, object_of, text_of, triple_of};
 use crate::words::repl_of;
 use gd_variant::Text;
+use program_edge::LineStop;
 use scene_model::{SyncDef, SyncList, SyncProp, SyncPropList};
 use serde_json::{Map, Value};
-use program_edge::LineStop;
 use sqlite_items::Items;
 use std::alloc::Global;
 

@@ -12,8 +12,8 @@ use crate::json::{
     shorts_of, text_of, texts_of, triple_of,
 };
 use gd_variant::{IntRun, IntsOf, NodePath, Opaque, Pair, Pairs, ValueList, Variant, is_sound};
-use serde_json::{Map, Value};
 use program_edge::{LineStop, LineWhy};
+use serde_json::{Map, Value};
 use sqlite_items::Items;
 use std::alloc::Global;
 

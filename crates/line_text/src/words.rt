@@ -4,9 +4,9 @@ ghost use Rattle.line_text.specs.Reading.{Gives};
 ghost use Rattle.line_text.specs.Words.{class_read, repl_read, rpc_read};
 
 use crate::json::word_of;
+use program_edge::{LineStop, LineWhy};
 use scene_model::{Class, ReplMode, RpcMode};
 use serde_json::Value;
-use program_edge::{LineStop, LineWhy};
 
 /// How a message travels.
 #[tactic(auto, unfolding(crate::specs::Words::class_read))]

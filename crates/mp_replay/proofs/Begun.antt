@@ -2,7 +2,7 @@
 use Rattle.std.proofs.Common.{◌≡◌, ℕ, List, [], ◌∷◌, sym, ap, ◌∙◌, subst, Option, Some, None, Ok}
 use Rattle.line_text.specs.Scenes.{scene_line_read}
 use Rattle.line_runs.specs.Output.{next_number}
-use Rattle.mp_world.specs.Steps.{Parts}
+use Rattle.world_steps.specs.Steps.{Parts}
 use Rattle.mp_replay.specs.Sessions.{Session, Holds, Took, Begins, session_of, begun, one_line_more, scene_given, given, replay_told}
 
 -- a line behind no world is the scene line: it writes nothing, and the world is that of its scene

@@ -12,7 +12,7 @@ use Rattle.scene_model.specs.declared.world.WorldEvent.TheVariants.{Connect, Dow
 use Rattle.line_text.specs.declared.sessions.SessionLine.{SessionLine}
 use Rattle.line_text.specs.declared.sessions.SessionLine.TheVariants as line
 use Rattle.line_text.specs.Held.{held, prop_names, prop_values, IsGivenLine}
-use Rattle.mp_world.specs.Stands.{has_sound, is_sound_event}
+use Rattle.world_steps.specs.Sound.{has_sound, is_sound_event}
 
 -- the name of a spawn is among its texts
 name_is_text : (o : SpawnOp) → list_all is_text (o.spawner ∷ held o.scene ++ o.name ∷ prop_names o.sets) ≡ true → is_text o.name ≡ true

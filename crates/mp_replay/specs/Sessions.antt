@@ -5,7 +5,9 @@ use Rattle.scene_model.specs.declared.world.WorldEvent.{WorldEvent}
 use Rattle.scene_model.specs.declared.world.WorldNo.TheVariants as refusal
 use Rattle.scene_model.specs.declared.world.WorldOutcome.TheVariants as answers
 use Rattle.peer_core.specs.Forms.{packet_form}
-use Rattle.world_model.specs.World.{World, world, world_answer, happened, is_in}
+use Rattle.world_model.specs.World.{World, is_in}
+use Rattle.world_model.specs.Happens.{world}
+use Rattle.world_model.specs.Answers.{world_answer, happened}
 use Rattle.world_model.specs.Replicas.{reported}
 use Rattle.session_text.specs.Outcomes.{outcome_lines}
 use Rattle.session_text.specs.Reports.{report_lines}
@@ -20,8 +22,8 @@ use Rattle.line_text.specs.declared.sessions.SessionLine.TheVariants as line
 use Rattle.line_text.specs.Scenes.{scene_line_read}
 use Rattle.line_text.specs.Sessions.{session_line_read}
 use Rattle.line_runs.specs.Output.{Telling, next_number}
-use Rattle.mp_world.specs.Steps.{Parts, scene_of}
-use Rattle.mp_world.specs.Stands.{StandsForScript}
+use Rattle.world_steps.specs.Steps.{Parts, scene_of}
+use Rattle.world_steps.specs.Stands.{StandsForScript}
 
 -- a session: its scene, and what happened in it, newest first
 pub record Session : Type 0 where

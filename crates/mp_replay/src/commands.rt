@@ -4,17 +4,17 @@ ghost use Rattle.program_edge.specs.declared.status.Status.TheVariants as status
 ghost use Rattle.line_runs.specs.Ends.{MayEnd};
 ghost use Rattle.line_runs.specs.Output.{EndsAs, read_in};
 ghost use Rattle.packet_show.specs.Shown.{IsHex, longest_line, most_judged, show_told};
-ghost use Rattle.mp_world.specs.Scripts.{ReplicasSettle};
+ghost use Rattle.world_steps.specs.Scripts.{ReplicasSettle};
 ghost use Rattle.mp_replay.specs.Ends.{AnyReason, is_known, is_replay as is_replay_of, is_show as is_show_of};
 ghost use Rattle.mp_replay.specs.Sessions.{no_scene, replay_told};
 
 use crate::session::Replayer;
 use crate::words::{is_replay, is_show};
 use line_runs::run_lines;
-use mp_world::replicas_settle;
 use packet_show::show;
 use program_edge::{Sink, Source, Status};
 use std::alloc::Global;
+use world_steps::replicas_settle;
 
 /// The most bytes of a line.
 const LONGEST_LINE: usize = 33_554_432;

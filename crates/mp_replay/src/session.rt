@@ -3,14 +3,14 @@ ghost use Rattle.std.specs.Prelude.{◌≡◌, ◌++◌, [], None, Ok, IfOk, OnO
 ghost use Rattle.line_text.specs.Scenes.{scene_line_read};
 ghost use Rattle.line_text.specs.Sessions.{session_line_read};
 ghost use Rattle.line_runs.specs.Steps.{Takes};
-ghost use Rattle.mp_world.specs.Stands.{is_built_event, is_sound_event};
+ghost use Rattle.world_steps.specs.Sound.{is_built_event, is_sound_event};
 ghost use Rattle.line_text.specs.Held.{IsGivenLine};
 ghost use Rattle.mp_replay.specs.Ends.{AnyReason};
 ghost use Rattle.mp_replay.specs.Sessions.{Begins, HoldsIn, Session as SessionOf, Took, after_line, line_given, line_text as line_text_of, no_scene, replay_told, report_text as report_text_of, with_event, world_of};
 ghost use Rattle.scene_model.specs.declared.world.WorldOutcome.TheVariants as answers;
 ghost use Rattle.session_text.specs.Outcomes.{outcome_lines};
 ghost use Rattle.session_text.specs.Reports.{report_lines};
-ghost use Rattle.world_model.specs.World.{world_answer};
+ghost use Rattle.world_model.specs.Answers.{world_answer};
 ghost use Rattle.peer_core.specs.Forms.{packet_form};
 
 use gd_variant::{Bytes, OutOfMemory};

@@ -19,7 +19,7 @@ fn is_the_word(words: &[String], word: &str) -> bool
     }
 }
 
-/// Whether the words are those of the first path.
+/// Whether the words ask for a session to be replayed.
 pub fn is_replay(words: &[String]) -> bool
     ensures { result ≡ is_replay_of words.now }
 {

@@ -1,76 +1,13 @@
--- The server's packets, put on the ways to their clients one after the other.
-use Rattle.std.proofs.Common.{◌≡◌, ℕ, zero, suc, ◌+◌, ◌≤◌, ◌<◌, ℤ, Bool, true, false, List, [], ◌∷◌, ◌++◌, length, take, filter, is_some, refl, sym, ap, ap₂, ◌∙◌, arith, Some, None, Result, Ok, Err}
-use Rattle.std.specs.Prelude.{slice_get, slice_index_or, option_and_then, OnOk, cond}
+-- Clients that are looked for and written one after the other.
+use Rattle.std.proofs.Common.{◌≡◌, ℕ, zero, suc, ◌+◌, ◌<◌, ◌≤◌, ℤ, Bool, true, false, cond, List, [], ◌∷◌, ◌++◌, length, map, filter, take, drop, refl, sym, ap, ap₂, ◌∙◌, subst, arith, Option, Some, None, append_assoc}
+use Rattle.std.specs.Prelude.{slice_get, slice_index_or, option_map, if◌then◌else◌}
 use Rattle.std.specs.List.{slice_set}
 use Rattle.std.specs.Ordering.{int_eq}
-use Rattle.std.proofs.lemmas.List.{append_assoc}
+use Rattle.std.proofs.lemmas.List.{append-nil}
 use Rattle.std.proofs.lemmas.List.Elements.{filter-append}
-use Rattle.std.proofs.lemmas.Bool.Decides.{nat_tests}
-use Rattle.std.proofs.lemmas.Bool.{true≢false, lt-ltb}
 use Rattle.scene_model.specs.declared.outcome.Out.{Out}
-use Rattle.peer_laws.proofs.Tests.{never}
-use Rattle.peer_laws.proofs.Numbers.{int_is}
-use Rattle.mp_world.specs.Steps.{Client, number_of, place_of, waiting_with, with_packets}
-use Rattle.mp_world.proofs.Links.{take_one}
-use Rattle.mp_world.proofs.Places.{place_is, place_of_number, some_same, numbers_apart, no_packets, got_below}
-
--- a client with one packet more on its way
-abbrev pub with_packet : Client → Out → Client
-with_packet c x = record c { down = c.down ++ x ∷ [] }
-
-waiting_joined : (xs ps qs : List Out) (b : ℤ) → waiting_with xs (ps ++ qs) b ≡ waiting_with (waiting_with xs ps b) qs b
-waiting_joined xs ps qs b =
-    let test : Out → Bool = λ x. int_eq x.link b in
-    ap (λ ys. xs ++ ys) (filter-append test ps qs) ∙ sym (append_assoc xs (filter test ps) (filter test qs))
-
--- some packets, and then others
-pub put_joined : (ps qs : List Out) (k : ℕ) (cs : List Client) → with_packets (ps ++ qs) k cs ≡ with_packets qs k (with_packets ps k cs)
-put_joined ps qs k [] = refl
-put_joined ps qs k (c ∷ cs) = ap₂ (λ y ds. record c { down = y } ∷ ds) (waiting_joined c.down ps qs (number_of k)) (put_joined ps qs (suc k) cs)
-
--- one packet on a way, by whether it is for that client
-one_on : (c : Client) (x : Out) (b : ℤ) (t : Bool) → int_eq x.link b ≡ t → (record c { down = waiting_with c.down (x ∷ []) b }) ≡ cond t (with_packet c x) c
-one_on c x b true e = ap (λ t. record c { down = c.down ++ cond t (x ∷ []) [] }) e
-one_on c x b false e = ap (λ t. record c { down = c.down ++ cond t (x ∷ []) [] }) e ∙ ap (λ y. record c { down = y }) (no_packets c.down b)
-
--- a packet that is for none of these clients
-nobody_put : (x : Out) (k : ℕ) (cs : List Client) → ((j : ℕ) → k ≤ j → j < k + length cs → int_eq x.link (number_of j) ≡ false) → with_packets (x ∷ []) k cs ≡ cs
-nobody_put x k [] others = refl
-nobody_put x k (c ∷ cs) others =
-    ap₂ (λ d ds. d ∷ ds) (one_on c x (number_of k) false (others k (omega arith) (omega arith)))
-    (nobody_put x (suc k) cs (λ j above below. others j (omega (arith, above)) (omega (arith, below))))
-
--- a packet for the client at a place
-client_put : (x : Out) (k i : ℕ) (cs : List Client) (c : Client) → slice_get cs i ≡ Some c → x.link ≡ number_of (k + i) → with_packets (x ∷ []) k cs ≡ slice_set cs i (with_packet c x)
-client_put x k i [] c at is = absurd (cc at)
-client_put x k zero (d ∷ cs) c at is =
-    let here : int_eq (number_of (k + 0)) (number_of k) ≡ true = grind (arith, nat_tests) in
-    ap₂ (λ e es. e ∷ es) (one_on d x (number_of k) true (ap (λ b. int_eq b (number_of k)) is ∙ here) ∙ ap (λ e. with_packet e x) (some_same d c at))
-    (nobody_put x (suc k) cs (λ j above below. ap (λ b. int_eq b (number_of j)) is ∙ numbers_apart (k + 0) j (grind (arith, nat_tests, above))))
-client_put x k (suc i) (d ∷ cs) c at is =
-    let n : k + suc i ≡ suc k + i = omega arith in
-    ap₂ (λ e es. e ∷ es) (one_on d x (number_of k) false (ap (λ b. int_eq b (number_of k)) is ∙ numbers_apart (k + suc i) k (grind (arith, nat_tests))))
-    (client_put x (suc k) i cs c at (is ∙ ap number_of n))
-
--- a packet for the client at a place, by the number of its link
-pub put_at_place : (x : Out) (i : ℕ) (cs : List Client) (c : Client) → place_of x.link ≡ Some i → slice_get cs i ≡ Some c → with_packets (x ∷ []) 0 cs ≡ slice_set cs i (with_packet c x)
-put_at_place x i cs c e at = let n : i ≡ 0 + i = omega arith in client_put x 0 i cs c at (place_is x.link i e ∙ ap number_of n)
-
--- nobody stands behind the last client
-pub beyond : (cs : List Client) (p : ℤ) (i : ℕ) → place_of p ≡ Some i → length cs ≤ i → option_and_then (slice_get cs) (place_of p) ≡ None
-beyond cs p i e far = ap (option_and_then (slice_get cs)) e ∙ none_at cs i far
-  where
-    none_at : (ds : List Client) (j : ℕ) → length ds ≤ j → slice_get ds j ≡ None
-    none_at [] j h = refl
-    none_at (d ∷ ds) zero h = absurd (omega (arith, h))
-    none_at (d ∷ ds) (suc j) h = none_at ds j (omega (arith, h))
-
--- a packet for a client that isn't there
-pub put_nowhere : (x : Out) (cs : List Client) → option_and_then (slice_get cs) (place_of x.link) ≡ None → cs ≡ with_packets (x ∷ []) 0 cs
-put_nowhere x cs none = sym (nobody_put x 0 cs others)
-  where
-    others : (j : ℕ) → 0 ≤ j → j < 0 + length cs → int_eq x.link (number_of j) ≡ false
-    others j above below = never (int_eq x.link (number_of j)) (λ same. absurd (true≢false (sym (got_below cs j ∙ lt-ltb j (length cs) (omega (arith, below))) ∙ ap is_some (sym (ap (option_and_then (slice_get cs)) (ap place_of (int_is x.link (number_of j) same) ∙ place_of_number j)) ∙ none))))
+use Rattle.world_steps.specs.Steps.{Client, place_of, waits_for, waiting_with, with_down, with_packets}
+use Rattle.world_steps.proofs.Links.{some_same, take_one}
 
 -- what stands at a place that there is
 pub got_at : {X : Type 0} (xs : List X) (i : ℕ) (x : X) → i < length xs → x ≡ slice_index_or xs i x → slice_get xs i ≡ Some x
@@ -78,11 +15,83 @@ got_at [] i x below e = absurd (omega (arith, below))
 got_at (y ∷ xs) zero x below e = ap Some (sym e)
 got_at (y ∷ xs) (suc i) x below e = got_at xs i x (omega (arith, below)) e
 
-pub put_there : {T E : Type 0} (r : Result T E) (x : Out) (i : ℕ) (cs : List Client) (c d : Client) → place_of x.link ≡ Some i → i < length cs → c ≡ slice_index_or cs i c → OnOk r (d ≡ with_packet c x) → OnOk r (slice_set cs i d ≡ with_packets (x ∷ []) 0 cs)
-put_there (Ok t) x i cs c d e below at is = ap (slice_set cs i) is ∙ sym (put_at_place x i cs c e (got_at cs i c below at))
-put_there (Err t) x i cs c d e below at is = tt
+-- a client that is looked for
 
--- one packet after those before it
-pub put_next : (xs : List Out) (i : ℕ) (x : Out) (cs ds es : List Client) → i < length xs → x ≡ slice_index_or xs i x → ds ≡ with_packets (take i xs) 0 cs → es ≡ with_packets (x ∷ []) 0 ds → es ≡ with_packets (take (i + 1) xs) 0 cs
-put_next xs i x cs ds es below at before now =
-    now ∙ ap (with_packets (x ∷ []) 0) before ∙ sym (put_joined (take i xs) (x ∷ []) 0 cs) ∙ ap (λ ps. with_packets ps 0 cs) (sym (take_one xs i x (got_at xs i x below at)))
+-- none so far, and not this one
+pub place_later : (p : ℤ) (cs : List Client) (i : ℕ) (c : Client) → slice_get cs i ≡ Some c → place_of p (take i cs) ≡ None → int_eq c.number p ≡ false → place_of p (take (i + 1) cs) ≡ None
+place_later p [] i c at none other = absurd (cc at)
+place_later p (d ∷ cs) zero c at none other = ap (λ (x : Client). if int_eq x.number p then Some 0 else None) (some_same d c at) ∙ ap (λ t. if t then Some 0 else None) other
+place_later p (d ∷ cs) (suc i) c at none other =
+    let n : suc i + 1 ≡ suc (i + 1) = omega arith in
+    ap (λ k. place_of p (take k (d ∷ cs))) n ∙ step (int_eq d.number p) (λ rest. place_later p cs i c at rest other) none
+  where
+    mapped : (o : Option ℕ) → option_map suc o ≡ None → o ≡ None
+    mapped None h = refl
+    mapped (Some j) h = absurd (cc h)
+
+    step : (t : Bool) → (place_of p (take i cs) ≡ None → place_of p (take (i + 1) cs) ≡ None) → (if t then Some 0 else option_map suc (place_of p (take i cs))) ≡ None
+        → (if t then Some 0 else option_map suc (place_of p (take (i + 1) cs))) ≡ None
+    step true more h = absurd (cc h)
+    step false more h = ap (option_map suc) (more (mapped (place_of p (take i cs)) h))
+
+-- none before, and this one
+pub place_here : (p : ℤ) (cs : List Client) (i : ℕ) (c : Client) → slice_get cs i ≡ Some c → place_of p (take i cs) ≡ None → int_eq c.number p ≡ true → place_of p cs ≡ Some i
+place_here p [] i c at none same = absurd (cc at)
+place_here p (d ∷ cs) zero c at none same = ap (λ (x : Client). if int_eq x.number p then Some 0 else option_map suc (place_of p cs)) (some_same d c at) ∙ ap (λ t. if t then Some 0 else option_map suc (place_of p cs)) same
+place_here p (d ∷ cs) (suc i) c at none same = step (int_eq d.number p) (λ rest. place_here p cs i c at rest same) none
+  where
+    mapped : (o : Option ℕ) → option_map suc o ≡ None → o ≡ None
+    mapped None h = refl
+    mapped (Some j) h = absurd (cc h)
+
+    step : (t : Bool) → (place_of p (take i cs) ≡ None → place_of p cs ≡ Some i) → (if t then Some 0 else option_map suc (place_of p (take i cs))) ≡ None → (if t then Some 0 else option_map suc (place_of p cs)) ≡ Some (suc i)
+    step true more h = absurd (cc h)
+    step false more h = ap (option_map suc) (more (mapped (place_of p (take i cs)) h))
+
+-- a client that is looked at, by its fields
+
+pub found_here : (p : ℤ) (cs : List Client) (i : ℕ) (c d : Client) → i < length cs → c ≡ slice_index_or cs i c → place_of p (take i cs) ≡ None → d ≡ c → int_eq d.number p ≡ true → (place_of p cs ≡ Some i) × (i < length cs)
+found_here p cs i c d below at none is same = (place_here p cs i c (got_at cs i c below at) none (ap (λ (x : Client). int_eq x.number p) (sym is) ∙ same), below)
+
+pub found_later : (p : ℤ) (cs : List Client) (i : ℕ) (c d : Client) → i < length cs → c ≡ slice_index_or cs i c → place_of p (take i cs) ≡ None → d ≡ c → int_eq d.number p ≡ false → place_of p (take (i + 1) cs) ≡ None
+found_later p cs i c d below at none is other = place_later p cs i c (got_at cs i c below at) none (ap (λ (x : Client). int_eq x.number p) (sym is) ∙ other)
+
+-- clients that are written
+
+-- the clients before a place with their packets, the others as they were
+abbrev pub put_front : List Out → ℕ → List Client → List Client
+put_front packets i cs = with_packets packets (take i cs) ++ drop i cs
+
+pub put_first : (packets : List Out) (cs : List Client) → cs ≡ put_front packets 0 cs
+put_first packets cs = refl
+
+pub put_length : (packets : List Out) (i : ℕ) (cs : List Client) → length (put_front packets i cs) ≡ length cs
+put_length packets zero cs = refl
+put_length packets (suc i) [] = refl
+put_length packets (suc i) (c ∷ cs) = ap suc (put_length packets i cs)
+
+-- the client at the place is as it was
+pub put_at : (packets : List Out) (i : ℕ) (cs : List Client) → slice_get (put_front packets i cs) i ≡ slice_get cs i
+put_at packets zero cs = refl
+put_at packets (suc i) [] = refl
+put_at packets (suc i) (c ∷ cs) = put_at packets i cs
+
+pub put_next : (packets : List Out) (i : ℕ) (cs : List Client) (c : Client) → slice_get cs i ≡ Some c → slice_set (put_front packets i cs) i (with_down packets c) ≡ put_front packets (i + 1) cs
+put_next packets i [] c at = absurd (cc at)
+put_next packets zero (d ∷ cs) c at = ap (λ x. with_down packets x ∷ cs) (sym (some_same d c at))
+put_next packets (suc i) (d ∷ cs) c at =
+    let n : suc i + 1 ≡ suc (i + 1) = omega arith in
+    ap (λ ds. with_down packets d ∷ ds) (put_next packets i cs c at) ∙ sym (ap (λ k. put_front packets k (d ∷ cs)) n)
+
+pub put_all : (packets : List Out) (n : ℕ) (cs : List Client) → length cs ≤ n → put_front packets n cs ≡ with_packets packets cs
+put_all packets zero [] h = refl
+put_all packets (suc n) [] h = refl
+put_all packets zero (c ∷ cs) h = absurd (omega (arith, h))
+put_all packets (suc n) (c ∷ cs) h = ap (λ ds. with_down packets c ∷ ds) (put_all packets n cs (omega (arith, h)))
+
+-- the client at a place with its packets, after those before it
+pub put_step : (packets : List Out) (cs ds : List Client) (i : ℕ) (c d : Client) → i < length cs → ds ≡ put_front packets i cs → c ≡ slice_index_or ds i c → d ≡ with_down packets c → slice_set ds i d ≡ put_front packets (i + 1) cs
+put_step packets cs ds i c d below is at now =
+    let long : length ds ≡ length cs = ap (λ (xs : List Client). length xs) is ∙ put_length packets i cs in
+    let there : slice_get cs i ≡ Some c = sym (put_at packets i cs) ∙ sym (ap (λ xs. slice_get xs i) is) ∙ got_at ds i c (omega (arith, below, long)) at in
+    ap₂ (λ xs x. slice_set xs i x) is now ∙ put_next packets i cs c there

@@ -1,12 +1,13 @@
 //! A client that connects.
-ghost use Rattle.std.specs.Prelude.{◌≡◌, ◌∷◌, ◌++◌, [], ◌≤ℤ◌, ◌<◌, pos, IfOk, OnOk, Some, length};
+ghost use Rattle.std.specs.Prelude.{◌≡◌, ◌∷◌, ◌++◌, ◌+◌, ℕ, [], ◌≤ℤ◌, false, pos, IfOk, OnOk, Some};
 ghost use Rattle.scene_model.specs.Valid.{IsValidScene};
 ghost use Rattle.scene_model.specs.declared.event.Event.TheVariants as event_of;
 ghost use Rattle.peer_model.specs.Heard.{server as server_id};
 ghost use Rattle.peer_steps.specs.Steps.{taken};
 ghost use Rattle.peer_core.specs.Forms.{packet_form};
-ghost use Rattle.world_model.specs.World.{effects_in, packets_in, step_of};
-ghost use Rattle.mp_world.specs.Steps.{connect_made, live_parts, new_client as client_made_of, new_peer, number_of, with_packets};
+ghost use Rattle.world_model.specs.Happens.{packets_in};
+ghost use Rattle.world_model.specs.Answers.{effects_in, step_of};
+ghost use Rattle.world_steps.specs.Steps.{connect_as as made_as, connect_made, is_full as has_no_room, live_parts, new_client as client_made_of, new_peer, number_after};
 
 use crate::client::Client;
 use crate::steps::{SERVER, effects_of, send_down, send_up, step};
@@ -20,11 +21,14 @@ use std::collections::VecDeque;
 /// The most clients that are up.
 const MOST_CLIENTS: usize = 64;
 
+/// How many clients may ever connect: the last one has the greatest number that there is.
+const MOST_NUMBERS: u32 = 2147483646;
+
 /// A client of this number, at which the server's link came up.
 fn new_client(alloc: Global, number: &i32, scene: &Scene) -> Result<(Client, Outcome), OutOfMemory>
     requires number { pos 1 ≤ℤ number.now }
     requires scene { IsValidScene scene.now }
-    ensures client { IfOk result (λ r. r.0 ≡ client_made_of (taken packet_form (new_peer scene.now number.now) (event_of.Up server_id)).kept (packets_in (taken packet_form (new_peer scene.now number.now) (event_of.Up server_id)).outcome)) }
+    ensures client { IfOk result (λ r. r.0 ≡ client_made_of number.now (taken packet_form (new_peer scene.now number.now) (event_of.Up server_id)).kept (packets_in (taken packet_form (new_peer scene.now number.now) (event_of.Up server_id)).outcome)) }
     ensures outcome { IfOk result (λ r. r.1 ≡ (taken packet_form (new_peer scene.now number.now) (event_of.Up server_id)).outcome) }
 {
     let id = *number;
@@ -33,7 +37,15 @@ fn new_client(alloc: Global, number: &i32, scene: &Scene) -> Result<(Client, Out
     let down = VecDeque::new(alloc);
     let mut up = VecDeque::new(alloc);
     send_up(&mut up, alloc, &outcome)?;
-    Ok((Client { peer, down, up }, outcome))
+    Ok((
+        Client {
+            number: id,
+            peer,
+            down,
+            up,
+        },
+        outcome,
+    ))
 }
 
 /// What both ends did, as the world answers it.
@@ -69,9 +81,7 @@ fn connect_as(
 ) -> Result<WorldOutcome, OutOfMemory>
     requires number { pos 1 ≤ℤ number.now }
     requires scene { IsValidScene server.old.who.scene }
-    ensures server { OnOk result (server.new ≡ (taken packet_form server.old (event_of.Up number.now)).kept) }
-    ensures clients { OnOk result (clients.new.items ≡ with_packets (packets_in (taken packet_form server.old (event_of.Up number.now)).outcome) 0 (clients.old.items ++ client_made_of (taken packet_form (new_peer server.old.who.scene number.now) (event_of.Up server_id)).kept (packets_in (taken packet_form (new_peer server.old.who.scene number.now) (event_of.Up server_id)).outcome) ∷ [])) }
-    ensures outcome { IfOk result (λ o. o ≡ WorldOutcome.Done (Some number.now) (step_of server_id (effects_in (taken packet_form server.old (event_of.Up number.now)).outcome) ∷ step_of number.now (effects_in (taken packet_form (new_peer server.old.who.scene number.now) (event_of.Up server_id)).outcome) ∷ [])) }
+    ensures { (come : ℕ) → IfOk result (λ o. record { outcome = o; parts = live_parts server.new (come + 1) clients.new.items } ≡ made_as (live_parts server.old come clients.old.items) number.now) }
 {
     let id = *number;
     let (client, second) = new_client(alloc, number, server.scene())?;
@@ -81,27 +91,44 @@ fn connect_as(
     answer_of(alloc, number, first, second)
 }
 
-/// The number of the next client.
-fn next_number(clients: &Vec<Client>) -> i32
-    requires { length clients.now.items < 64 }
-    ensures { result ≡ number_of (length clients.now.items) }
+/// Whether no further client can connect.
+fn is_full(clients: &Vec<Client>, come: &u32) -> bool
+    ensures { result ≡ has_no_room come.now clients.now.items }
 {
-    clients.len() as i32 + 2
+    clients.len() >= MOST_CLIENTS || *come >= MOST_NUMBERS
+}
+
+/// The number of the next client.
+fn next_number(clients: &Vec<Client>, come: &u32) -> i32
+    requires { has_no_room come.now clients.now.items ≡ false }
+    ensures number { result ≡ pos (number_after come.now) }
+    ensures above { pos 1 ≤ℤ result }
+{
+    *come as i32 + 2
+}
+
+/// One client more has connected.
+fn count_one(clients: &Vec<Client>, come: &mut u32)
+    requires { has_no_room come.old clients.now.items ≡ false }
+    ensures { come.new ≡ come.old + 1 }
+{
+    *come += 1;
 }
 
 /// The next client connects, where there is room.
 pub fn connect(
     server: &mut Peer,
     clients: &mut Vec<Client>,
+    come: &mut u32,
     alloc: Global,
 ) -> Result<WorldOutcome, OutOfMemory>
     requires { IsValidScene server.old.who.scene }
-    ensures { IfOk result (λ o. record { outcome = o; parts = live_parts server.new clients.new.items } ≡ connect_made (live_parts server.old clients.old.items)) }
+    ensures { IfOk result (λ o. record { outcome = o; parts = live_parts server.new come.new clients.new.items } ≡ connect_made (live_parts server.old come.old clients.old.items)) }
 {
-    if clients.len() < MOST_CLIENTS {
-        let number = next_number(clients);
-        connect_as(server, clients, alloc, &number)
-    } else {
-        Ok(WorldOutcome::Refused(WorldNo::PeersFull))
+    if is_full(clients, come) {
+        return Ok(WorldOutcome::Refused(WorldNo::PeersFull));
     }
+    let number = next_number(clients, come);
+    count_one(clients, come);
+    connect_as(server, clients, alloc, &number)
 }

@@ -1,9 +1,8 @@
 //! Packets that are delivered.
-ghost use Rattle.std.specs.Prelude.{◌≡◌, ℕ, Some, ◌<◌, ◌&&◌, ◌||◌, not, true, false, length, slice_get, IfOk};
-ghost use Rattle.std.specs.Ordering.{int_eq};
-ghost use Rattle.peer_model.specs.Heard.{server as server_id};
+ghost use Rattle.std.specs.Prelude.{◌≡◌, ℕ, Some, ◌<◌, ◌&&◌, not, true, false, length, slice_get, IfOk};
 ghost use Rattle.peer_steps.specs.Kept.{Kept};
-ghost use Rattle.mp_world.specs.Steps.{IsTaken, Parts as PartsOf, deliver_down, delivers_at, has_peer, live_parts, number_of, place_of as place_with, rel_made, with_client};
+ghost use Rattle.world_model.specs.Answers.{has_no_link};
+ghost use Rattle.world_steps.specs.Steps.{IsTaken, Parts as PartsOf, deliver_down, delivers_at, has_peer, live_parts, place_of, rel_made, with_client};
 
 use crate::client::{Client, client_place};
 use crate::steps::{SERVER, is_server, take_at_client, take_at_server};
@@ -15,30 +14,30 @@ use std::alloc::Global;
 
 /// Whether a peer is there.
 fn is_there(clients: &Vec<Client>, peer: &i32) -> bool
-    ensures { (k : Kept) → result ≡ has_peer (live_parts k clients.now.items) peer.now }
+    ensures { (k : Kept) (come : ℕ) → result ≡ has_peer (live_parts k come clients.now.items) peer.now }
 {
     is_server(peer) || client_place(clients, peer).is_some()
 }
 
 fn are_there(clients: &Vec<Client>, from: &i32, to: &i32) -> bool
-    ensures { (k : Kept) → result ≡ (has_peer (live_parts k clients.now.items) from.now && has_peer (live_parts k clients.now.items) to.now) }
+    ensures { (k : Kept) (come : ℕ) → result ≡ (has_peer (live_parts k come clients.now.items) from.now && has_peer (live_parts k come clients.now.items) to.now) }
 {
     is_there(clients, from) && is_there(clients, to)
 }
 
 /// Whether there is a link between these peers: one of them is the server, and not both.
 fn is_link(from: &i32, to: &i32) -> bool
-    ensures { result ≡ not (int_eq from.now to.now || (not (int_eq from.now server_id) && not (int_eq to.now server_id))) }
+    ensures { result ≡ not (has_no_link from.now to.now) }
 {
     *from != *to && (is_server(from) || is_server(to))
 }
 
 /// The next packet for a client.
-fn take_down(client: &mut Client, alloc: Global, number: &i32) -> Result<WorldOutcome, OutOfMemory>
-    ensures { (v : PartsOf) (i : ℕ) → slice_get v.clients i ≡ Some client.old → number.now ≡ number_of i → IfOk result (λ o. record { outcome = o; parts = with_client v i client.new } ≡ deliver_down v i client.old client.old.down) }
+fn take_down(client: &mut Client, alloc: Global) -> Result<WorldOutcome, OutOfMemory>
+    ensures { (v : PartsOf) (i : ℕ) → slice_get v.clients i ≡ Some client.old → IfOk result (λ o. record { outcome = o; parts = with_client v i client.new } ≡ deliver_down v i client.old client.old.down) }
 {
     match take_next(&mut client.down) {
-        Some(packet) => take_at_client(client, alloc, number, arrival(&SERVER, packet)),
+        Some(packet) => take_at_client(client, alloc, arrival(&SERVER, packet)),
         None => Ok(WorldOutcome::Refused(WorldNo::NothingInFlight)),
     }
 }
@@ -57,10 +56,10 @@ fn deliver_to_client(
     alloc: Global,
     number: &i32,
 ) -> Result<WorldOutcome, OutOfMemory>
-    ensures { (k : Kept) → IfOk result (λ o. record { outcome = o; parts = live_parts k clients.new.items } ≡ delivers_at (live_parts k clients.old.items) true (place_with number.now)) }
+    ensures { (k : Kept) (come : ℕ) → IfOk result (λ o. record { outcome = o; parts = live_parts k come clients.new.items } ≡ delivers_at (live_parts k come clients.old.items) true (place_of number.now clients.old.items)) }
 {
     match client_place(clients, number) {
-        Some(place) => take_down(&mut clients[place], alloc, number),
+        Some(place) => take_down(&mut clients[place], alloc),
         None => Ok(WorldOutcome::Refused(WorldNo::NoPeer)),
     }
 }
@@ -73,9 +72,9 @@ fn deliver_from(
     number: &i32,
     place: usize,
 ) -> Result<WorldOutcome, OutOfMemory>
-    requires place { place_with number.now ≡ Some place }
+    requires place { place_of number.now clients.old.items ≡ Some place }
     requires within { place < length clients.old.items }
-    ensures { IfOk result (λ o. record { outcome = o; parts = live_parts server.new clients.new.items } ≡ delivers_at (live_parts server.old clients.old.items) false (Some place)) }
+    ensures { (come : ℕ) → IfOk result (λ o. record { outcome = o; parts = live_parts server.new come clients.new.items } ≡ delivers_at (live_parts server.old come clients.old.items) false (Some place)) }
 {
     match take_up(&mut clients[place]) {
         Some(packet) => take_at_server(server, clients, alloc, arrival(number, packet)),
@@ -90,7 +89,7 @@ fn deliver_to_server(
     alloc: Global,
     number: &i32,
 ) -> Result<WorldOutcome, OutOfMemory>
-    ensures { IfOk result (λ o. record { outcome = o; parts = live_parts server.new clients.new.items } ≡ delivers_at (live_parts server.old clients.old.items) false (place_with number.now)) }
+    ensures { (come : ℕ) → IfOk result (λ o. record { outcome = o; parts = live_parts server.new come clients.new.items } ≡ delivers_at (live_parts server.old come clients.old.items) false (place_of number.now clients.old.items)) }
 {
     match client_place(clients, number) {
         Some(place) => deliver_from(server, clients, alloc, number, place),
@@ -106,7 +105,7 @@ pub fn deliver(
     from: &i32,
     to: &i32,
 ) -> Result<WorldOutcome, OutOfMemory>
-    ensures { IfOk result (λ o. record { outcome = o; parts = live_parts server.new clients.new.items } ≡ rel_made (live_parts server.old clients.old.items) from.now to.now) }
+    ensures { (come : ℕ) → IfOk result (λ o. record { outcome = o; parts = live_parts server.new come clients.new.items } ≡ rel_made (live_parts server.old come clients.old.items) from.now to.now) }
 {
     if !are_there(clients, from, to) {
         Ok(WorldOutcome::Refused(WorldNo::NoPeer))

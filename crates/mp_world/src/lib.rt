@@ -1,4 +1,4 @@
-//! The links between the peers of a session: what was sent on each, how much was delivered, and what each peer holds.
+//! A session of several peers: what each of them holds, and what waits on the links between them.
 //!
 //! Built so far are a server with up to 64 clients, operations, and reliable packets.
 #![tactic(auto)]
@@ -6,11 +6,9 @@
 mod client;
 mod connect;
 mod deliver;
-mod laws;
 mod operate;
 mod steps;
 mod way;
 mod world;
 
-pub use laws::replicas_settle;
 pub use world::{ReportNo, World, WorldStop};

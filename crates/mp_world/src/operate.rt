@@ -1,12 +1,9 @@
 //! Operations of peers.
-ghost use Rattle.std.specs.Prelude.{◌≡◌, true, IfOk, OnOk};
+ghost use Rattle.std.specs.Prelude.{◌≡◌, ℕ, true, IfOk};
 ghost use Rattle.peer_laws.specs.Built.{is_built_op};
 ghost use Rattle.peer_steps.specs.Kept.{Kept};
 ghost use Rattle.peer_steps.specs.Sound.{is_sound_op};
-ghost use Rattle.peer_core.specs.Forms.{packet_form};
-ghost use Rattle.scene_model.specs.declared.event.Event.TheVariants as event_of;
-ghost use Rattle.scene_model.specs.declared.world.WorldEvent.TheVariants as world_event;
-ghost use Rattle.mp_world.specs.Steps.{client_at, does_at, live_parts, op_made, place_of as place_with};
+ghost use Rattle.world_steps.specs.Steps.{does_at, live_parts, op_made, place_of};
 
 use crate::client::{Client, client_place};
 use crate::steps::{is_server, take_at_client, take_at_server};
@@ -24,10 +21,10 @@ fn operate_at_client(
 ) -> Result<WorldOutcome, OutOfMemory>
     requires built { is_built_op op ≡ true }
     requires sound { is_sound_op op ≡ true }
-    ensures { (k : Kept) → IfOk result (λ o. record { outcome = o; parts = live_parts k clients.new.items } ≡ does_at (live_parts k clients.old.items) op (place_with number.now)) }
+    ensures { (k : Kept) (come : ℕ) → IfOk result (λ o. record { outcome = o; parts = live_parts k come clients.new.items } ≡ does_at (live_parts k come clients.old.items) op (place_of number.now clients.old.items)) }
 {
     match client_place(clients, number) {
-        Some(place) => take_at_client(&mut clients[place], alloc, number, Event::Op(op)),
+        Some(place) => take_at_client(&mut clients[place], alloc, Event::Op(op)),
         None => Ok(WorldOutcome::Refused(WorldNo::NoPeer)),
     }
 }
@@ -42,7 +39,7 @@ pub fn operate(
 ) -> Result<WorldOutcome, OutOfMemory>
     requires built { is_built_op op ≡ true }
     requires sound { is_sound_op op ≡ true }
-    ensures { IfOk result (λ o. record { outcome = o; parts = live_parts server.new clients.new.items } ≡ op_made (live_parts server.old clients.old.items) peer.now op) }
+    ensures { (come : ℕ) → IfOk result (λ o. record { outcome = o; parts = live_parts server.new come clients.new.items } ≡ op_made (live_parts server.old come clients.old.items) peer.now op) }
 {
     if is_server(peer) {
         take_at_server(server, clients, alloc, Event::Op(op))

@@ -1,14 +1,14 @@
 //! What one peer of a world does with an event.
-ghost use Rattle.std.specs.Prelude.{◌≡◌, ◌++◌, true, IfOk, OnOk, filter};
+ghost use Rattle.std.specs.Prelude.{◌≡◌, true, IfOk, OnOk};
 ghost use Rattle.std.specs.Ordering.{int_eq};
-ghost use Rattle.scene_model.specs.declared.outcome.Out.{Out as OutOf};
 ghost use Rattle.peer_model.specs.Heard.{server as server_id};
 ghost use Rattle.peer_steps.specs.Sound.{is_sound_event};
 ghost use Rattle.peer_steps.specs.Stands.{is_built_event};
 ghost use Rattle.peer_steps.specs.Steps.{taken};
 ghost use Rattle.peer_core.specs.Forms.{packet_form};
-ghost use Rattle.world_model.specs.World.{effects_in, packets_in, peer_answer};
-ghost use Rattle.mp_world.specs.Steps.{waiting_with, with_packets};
+ghost use Rattle.world_model.specs.Happens.{packets_in};
+ghost use Rattle.world_model.specs.Answers.{effects_in, peer_answer};
+ghost use Rattle.world_steps.specs.Steps.{waiting_with, with_packets};
 
 use crate::client::{Client, put_packets};
 use crate::way::put_on;
@@ -80,7 +80,7 @@ pub fn send_up(
     alloc: Global,
     outcome: &Outcome,
 ) -> Result<(), OutOfMemory>
-    ensures { OnOk result (waiting.new.items ≡ waiting.old.items ++ filter (λ (x : OutOf). int_eq x.link server_id) (packets_in outcome.now)) }
+    ensures { OnOk result (waiting.new.items ≡ waiting_with waiting.old.items (packets_in outcome.now) server_id) }
 {
     match outcome {
         Outcome::Done(effects) => put_on(waiting, alloc, effects.packets.as_slice(), &SERVER),
@@ -94,7 +94,7 @@ pub fn send_down(
     alloc: Global,
     outcome: &Outcome,
 ) -> Result<(), OutOfMemory>
-    ensures { OnOk result (clients.new.items ≡ with_packets (packets_in outcome.now) 0 clients.old.items) }
+    ensures { OnOk result (clients.new.items ≡ with_packets (packets_in outcome.now) clients.old.items) }
 {
     match outcome {
         Outcome::Done(effects) => put_packets(clients, effects.packets.as_slice(), alloc),
@@ -113,7 +113,7 @@ pub fn take_at_server(
     requires built { is_built_event event ≡ true }
     requires sound { is_sound_event event ≡ true }
     ensures server { OnOk result (server.new ≡ (taken packet_form server.old event).kept) }
-    ensures clients { OnOk result (clients.new.items ≡ with_packets (packets_in (taken packet_form server.old event).outcome) 0 clients.old.items) }
+    ensures clients { OnOk result (clients.new.items ≡ with_packets (packets_in (taken packet_form server.old event).outcome) clients.old.items) }
     ensures outcome { IfOk result (λ o. o ≡ peer_answer server_id (taken packet_form server.old event).outcome) }
 {
     let outcome = step(server, alloc, event)?;
@@ -125,15 +125,14 @@ pub fn take_at_server(
 pub fn take_at_client(
     client: &mut Client,
     alloc: Global,
-    number: &i32,
     event: Event,
 ) -> Result<WorldOutcome, OutOfMemory>
     requires built { is_built_event event ≡ true }
     requires sound { is_sound_event event ≡ true }
     ensures client { OnOk result (client.new ≡ record client.old { kept = (taken packet_form client.old.kept event).kept; up = waiting_with client.old.up (packets_in (taken packet_form client.old.kept event).outcome) server_id }) }
-    ensures outcome { IfOk result (λ o. o ≡ peer_answer number.now (taken packet_form client.old.kept event).outcome) }
+    ensures outcome { IfOk result (λ o. o ≡ peer_answer client.old.number (taken packet_form client.old.kept event).outcome) }
 {
     let outcome = step(&mut client.peer, alloc, event)?;
     send_up(&mut client.up, alloc, &outcome)?;
-    answer_of(alloc, number, outcome)
+    answer_of(alloc, &client.number, outcome)
 }

@@ -1,38 +1,50 @@
 //! What waits on one direction of a link, oldest first.
-ghost use Rattle.std.specs.Prelude.{◌≡◌, ◌++◌, ◌∷◌, [], OnOk, filter};
-ghost use Rattle.std.specs.Ordering.{int_eq};
-ghost use Rattle.scene_model.specs.declared.outcome.Out.{Out as OutOf};
-ghost use Rattle.world_model.specs.World.{received};
-ghost use Rattle.mp_world.specs.Steps.{IsTaken};
+ghost use Rattle.std.specs.Prelude.{◌≡◌, ◌++◌, ◌∷◌, [], OnOk};
+ghost use Rattle.scene_model.specs.declared.event.Event.TheVariants as event_of;
+ghost use Rattle.world_model.specs.World.{is_reliable};
+ghost use Rattle.world_steps.specs.Steps.{IsTaken, waiting_with, waits_for as waits_there};
 
 use gd_variant::OutOfMemory;
-use scene_model::{Event, Out, TryClone};
+use scene_model::{Class, Event, Out, TryClone};
 use std::alloc::Global;
 use std::collections::VecDeque;
 
 /// Puts a copy of a packet behind those that wait.
-pub fn push_copy(
-    waiting: &mut VecDeque<Out>,
-    packet: &Out,
-    alloc: Global,
-) -> Result<(), OutOfMemory>
+fn push_copy(waiting: &mut VecDeque<Out>, packet: &Out, alloc: Global) -> Result<(), OutOfMemory>
     ensures { OnOk result (waiting.new.items ≡ waiting.old.items ++ packet.now ∷ []) }
 {
     waiting.push_back(packet.try_clone(alloc)?)?;
     Ok(())
 }
 
-/// Puts the packets for the other end of a link behind those that wait.
+/// Whether packets of a class are delivered once and in order.
+fn is_in_order(class: &Class) -> bool
+    ensures { result ≡ is_reliable class.now }
+{
+    match class {
+        Class::Reliable => true,
+        Class::Unreliable | Class::Ordered => false,
+    }
+}
+
+/// Whether a packet waits on the way to the peer with this number.
+fn waits_for(link: &i32, packet: &Out) -> bool
+    ensures { result ≡ waits_there link.now packet.now }
+{
+    packet.link == *link && is_in_order(&packet.class)
+}
+
+/// Puts the reliable packets for the other end of a link behind those that wait.
 pub fn put_on(
     waiting: &mut VecDeque<Out>,
     alloc: Global,
     packets: &[Out],
     link: &i32,
 ) -> Result<(), OutOfMemory>
-    ensures { OnOk result (waiting.new.items ≡ waiting.old.items ++ filter (λ (x : OutOf). int_eq x.link link.now) packets.now) }
+    ensures { OnOk result (waiting.new.items ≡ waiting_with waiting.old.items packets.now link.now) }
 {
     for packet in packets {
-        if packet.link == *link {
+        if waits_for(link, packet) {
             push_copy(waiting, packet, alloc)?;
         }
     }
@@ -48,7 +60,7 @@ pub fn take_next(waiting: &mut VecDeque<Out>) -> Option<Out>
 
 /// A packet as its receiver sees it.
 pub fn arrival(from: &i32, packet: Out) -> Event
-    ensures { result ≡ received from.now packet }
+    ensures { result ≡ event_of.Received from.now packet.class packet.bytes }
 {
     let Out {
         link: _,

@@ -1,14 +1,17 @@
 //! A server and its clients, with the links between them.
-ghost use Rattle.std.specs.Prelude.{◌≡◌, ◌≢◌, ◌∷◌, [], List, true, false, ◌↔◌, IfOk, OnOk, OnErr, Err, Some, option_map};
+ghost use Rattle.std.specs.Prelude.{◌≡◌, ◌≢◌, ℕ, ◌∷◌, [], List, true, false, ◌↔◌, IfOk, OnOk, OnErr, Err, Some, option_map};
 ghost use Rattle.scene_model.specs.declared.world.WorldEvent.{WorldEvent as EventOf};
 ghost use Rattle.scene_model.specs.Valid.{IsValidScene};
 ghost use Rattle.peer_core.specs.Forms.{packet_form};
-ghost use Rattle.world_model.specs.World.{happened, is_in, world, world_answer};
+ghost use Rattle.world_model.specs.World.{is_in};
+ghost use Rattle.world_model.specs.Happens.{world};
+ghost use Rattle.world_model.specs.Answers.{happened, world_answer};
 ghost use Rattle.world_model.specs.Replicas.{reported};
 ghost use Rattle.mp_world.specs.declared.world.WorldStop.TheVariants as stop;
 ghost use Rattle.mp_world.specs.declared.world.ReportNo.TheVariants as report_no;
-ghost use Rattle.mp_world.specs.Steps.{has_peer, kept_at, kept_report, live_parts, made as made_of, scene_of};
-ghost use Rattle.mp_world.specs.Stands.{StandsForScript, has_sound_values, is_built_event, is_sound_event};
+ghost use Rattle.world_steps.specs.Sound.{has_sound_values, is_built_event, is_sound_event};
+ghost use Rattle.world_steps.specs.Steps.{has_peer, is_spent, kept_at, kept_report, live_parts, made as made_of, scene_of};
+ghost use Rattle.world_steps.specs.Stands.{StandsForScript};
 
 use crate::client::{Client, client_place};
 use crate::connect::connect;
@@ -43,16 +46,17 @@ pub enum ReportNo {
 fn take(
     server: &mut Peer,
     clients: &mut Vec<Client>,
+    come: &mut u32,
     alloc: Global,
     event: WorldEvent,
 ) -> Result<WorldOutcome, OutOfMemory>
     requires built { is_built_event event ≡ true }
     requires sound { has_sound_values event ≡ true }
     requires valid { IsValidScene server.old.who.scene }
-    ensures { IfOk result (λ o. record { outcome = o; parts = live_parts server.new clients.new.items } ≡ made_of (live_parts server.old clients.old.items) event) }
+    ensures { IfOk result (λ o. record { outcome = o; parts = live_parts server.new come.new clients.new.items } ≡ made_of (live_parts server.old come.old clients.old.items) event) }
 {
     match event {
-        WorldEvent::Connect => connect(server, clients, alloc),
+        WorldEvent::Connect => connect(server, clients, come, alloc),
         WorldEvent::Op { peer, op } => operate(server, clients, alloc, &peer, op),
         WorldEvent::Rel { from, to } => deliver(server, clients, alloc, &from, &to),
         WorldEvent::Down(_) | WorldEvent::Loose { .. } | WorldEvent::Forge { .. } => unreachable!(),
@@ -63,6 +67,7 @@ fn take(
 fn report_of(peer: &Peer, alloc: Global) -> Result<Report, ReportNo>
     ensures report { IfOk result (λ r. r ≡ kept_report peer.now) }
     ensures there { result ≢ Err report_no.NoPeer }
+    ensures spent { result ≡ Err report_no.Spent → peer.now.spent ≡ true }
 {
     match peer.report(alloc) {
         Ok(report) => Ok(report),
@@ -78,8 +83,9 @@ fn report_at(
     alloc: Global,
     number: &i32,
 ) -> Result<Report, ReportNo>
-    ensures report { IfOk result (λ r. option_map kept_report (kept_at (live_parts server.now clients.now.items) number.now) ≡ Some r) }
-    ensures no_peer { result ≡ Err report_no.NoPeer ↔ has_peer (live_parts server.now clients.now.items) number.now ≡ false }
+    ensures report { (come : ℕ) → IfOk result (λ r. option_map kept_report (kept_at (live_parts server.now come clients.now.items) number.now) ≡ Some r) }
+    ensures no_peer { (come : ℕ) → result ≡ Err report_no.NoPeer ↔ has_peer (live_parts server.now come clients.now.items) number.now ≡ false }
+    ensures spent { (come : ℕ) → result ≡ Err report_no.Spent → option_map is_spent (kept_at (live_parts server.now come clients.now.items) number.now) ≡ Some true }
 {
     if is_server(number) {
         return report_of(server, alloc);
@@ -90,7 +96,7 @@ fn report_at(
     }
 }
 
-/// The server and its clients, numbered from 2, with what waits on their links.
+/// The server and its clients, by their numbers, with what waits on their links, and how many clients ever connected.
 ///
 /// After want of memory it is spent, and says so from then on.
 #[derive(Drop)]
@@ -98,6 +104,7 @@ pub struct World {
     spent: bool,
     server: Peer,
     clients: Vec<Client>,
+    come: u32,
 }
 
 impl Model for World {
@@ -105,13 +112,13 @@ impl Model for World {
     ghost use Rattle.std.specs.Coded.{codes};
     ghost use Rattle.std.specs.Prelude.{◌≡◌, false};
     ghost use Rattle.scene_model.specs.Valid.{IsValidScene};
-    ghost use Rattle.mp_world.specs.Steps.{Parts};
+    ghost use Rattle.world_steps.specs.Steps.{Parts};
 
     ghost Value = { Parts };
 
     ghost coded = { Prim.hlevel (codes, variant.the_row.coded) };
 
-    ghost view = { λ w. record { spent = w.spent; server = w.server; clients = w.clients.items } };
+    ghost view = { λ w. record { spent = w.spent; server = w.server; come = w.come; clients = w.clients.items } };
 
     ghost invariant = { λ w. w.spent ≡ false → IsValidScene w.server.who.scene };
 }
@@ -127,6 +134,7 @@ impl World {
             spent: false,
             server: Peer::new(alloc, SERVER, scene)?,
             clients: Vec::new(alloc),
+            come: 0,
         })
     }
 
@@ -148,7 +156,13 @@ impl World {
         if self.spent {
             return Err(WorldStop::Spent);
         }
-        match take(&mut self.server, &mut self.clients, alloc, event) {
+        match take(
+            &mut self.server,
+            &mut self.clients,
+            &mut self.come,
+            alloc,
+            event,
+        ) {
             Ok(outcome) => Ok(outcome),
             Err(OutOfMemory) => {
                 self.spent = true;
@@ -161,6 +175,9 @@ impl World {
     pub fn report(&self, alloc: Global, peer: i32) -> Result<Report, ReportNo>
         ensures report { (es : List EventOf) → StandsForScript self.now es → IfOk result (λ r. r ≡ reported packet_form (scene_of self.now) (world packet_form (scene_of self.now) es) peer) }
         ensures no_peer { (es : List EventOf) → StandsForScript self.now es → result ≡ Err report_no.NoPeer ↔ is_in (world packet_form (scene_of self.now) es) peer ≡ false }
+        // it is spent exactly where the world is
+        ensures was_spent { self.now.spent ≡ true → result ≡ Err report_no.Spent }
+        ensures live { (es : List EventOf) → StandsForScript self.now es → result ≢ Err report_no.Spent }
         ensures there { (es : List EventOf) → StandsForScript self.now es → IfOk result (λ _. is_in (world packet_form (scene_of self.now) es) peer ≡ true) }
     {
         if self.spent {

@@ -1,5 +1,5 @@
 -- Packets that are faults: of two reasons the first.
-use Rattle.std.specs.Prelude.{◌≡◌, ℕ, pos, false, List, [], ◌∷◌, Some, None, Err, codes}
+use Rattle.std.specs.Prelude.{◌≡◌, ℕ, pos, false, List, [], ◌∷◌, Some, None, Err, codes, replicate}
 use Rattle.gd_variant.specs.declared.value.Variant.{Variant}
 use Rattle.gd_variant.specs.declared.message.Plain.{Plain}
 use Rattle.gd_variant.specs.declared.message.Plain.TheVariants as packet
@@ -7,11 +7,16 @@ use Rattle.gd_variant.specs.declared.message.Message.TheVariants.{AddPeer, DelPe
 use Rattle.gd_variant.specs.declared.message.Target.TheVariants.{At}
 use Rattle.gd_variant.specs.declared.message.Why.TheVariants as why
 use Rattle.scene_model.specs.declared.event.Class.TheVariants.{Reliable}
+use Rattle.scene_model.specs.declared.spawn.SpawnMsg.{SpawnMsg}
 use Rattle.scene_model.specs.declared.outcome.Fault.TheVariants as fault_row
+use Rattle.scene_model.specs.Methods.{method_digest}
+use Rattle.scene_model.specs.Nodes.{Live}
 use Rattle.peer_model.specs.Heard.{Heard, gets}
+use Rattle.peer_model.specs.Faults.{spawn_fault}
 use Rattle.peer_model.specs.Answer.{fault}
+use Rattle.peer_rows.specs.Scenes.{peer}
 use Rattle.peer_rows.specs.Session.{call, up, down, got, got_packet, got_loose, reply_after}
-use Rattle.peer_rows.specs.SceneF.{server, three, int, spawn_x, x_packet}
+use Rattle.peer_rows.specs.SceneF.{own, end, scene_g, server, three, int, spawn_x, x_packet}
 use Rattle.peer_rows.specs.Limits.{long_value}
 
 abbrev pub call_b : ℕ → List Variant → Plain
@@ -115,3 +120,27 @@ NoLinkBetweenClients = reply_after three (up 1 ∷ got 1 (AddPeer (pos 2)) ∷ [
 -- a packet that nothing reads, of a peer that is up or not
 abbrev pub MalformedFirst : Type 0
 MalformedFirst = reply_after server [] (gets (pos 9) Reliable [] (Err (record { at = 0; why = why.Empty }))) ≡ fault (fault_row.Malformed 0 why.Empty)
+
+-- a scene byte that the spawner has no scene for, and the authority before it
+abbrev pub NoSuchScene : Type 0
+NoSuchScene = (reply_after server with_z (got_packet 2 (packet.Spawn 1 5 5 (6 ∷ []) (codes "w") None (int 4 ∷ []))) ≡ fault fault_row.NoScene)
+    × (reply_after server with_z (got_packet 2 (packet.Spawn 255 5 5 (6 ∷ []) (codes "w") (Some (int 4)) (int 4 ∷ []))) ≡ fault fault_row.NoScene)
+    × (reply_after server with_z (got_packet 2 (packet.Spawn 9 2 5 (6 ∷ []) (codes "w") None (int 4 ∷ []))) ≡ fault fault_row.NotAuthority)
+
+-- a name for a node with other methods
+abbrev pub OtherMethods : Type 0
+OtherMethods = reply_after server (up 2 ∷ []) (got_packet 2 (packet.Simplify [] 9 (codes "b"))) ≡ fault (fault_row.MethodsDiffer (method_digest (end ∷ own ∷ [])))
+
+-- a wrong name before one that is taken
+abbrev pub WrongNameFirst : Type 0
+WrongNameFirst = reply_after (peer 1 scene_g) (up 2 ∷ []) (got_packet 2 (z_packet 1 (2 ∷ []) (codes "sp/y") (int 4 ∷ []))) ≡ fault fault_row.BadName
+
+-- no row past the greatest number of them
+abbrev pub spawned_z : Live
+spawned_z = record { auth = pos 2; num = 1; ids = 2 ∷ []; path = codes "b/z"; place = Some 1; values = [] }
+
+abbrev pub message_w : SpawnMsg
+message_w = record { scene = 0; spawner = 5; net = 5; syncs = 6 ∷ []; name = codes "w"; arg = None; values = int 4 ∷ [] }
+
+abbrev pub RowsAreFull : Type 0
+RowsAreFull = (spawn_fault server (up 2 ∷ []) (pos 2) message_w (replicate 4095 spawned_z) ≡ None) × (spawn_fault server (up 2 ∷ []) (pos 2) message_w (replicate 4096 spawned_z) ≡ Some fault_row.NodesFull)

@@ -1,11 +1,18 @@
 -- Limits, at their edges.
-use Rattle.std.specs.Prelude.{◌≡◌, ℕ, true, false, Some, None, replicate}
+use Rattle.std.specs.Prelude.{◌≡◌, ℕ, zero, suc, ◌+◌, pos, true, false, List, [], ◌∷◌, ◌++◌, length, Some, None, codes, replicate}
 use Rattle.gd_variant.specs.declared.value.Variant.{Variant}
-use Rattle.gd_variant.specs.declared.value.Variant.TheVariants.{PackedBytes}
+use Rattle.gd_variant.specs.declared.value.Variant.TheVariants.{Text, PackedBytes}
+use Rattle.gd_variant.specs.declared.message.Plain.TheVariants as packet
+use Rattle.scene_model.specs.declared.outcome.Refusal.TheVariants as refusal
+use Rattle.peer_model.specs.Heard.{Heard}
+use Rattle.peer_model.specs.Peers.{peers_up}
 use Rattle.peer_model.specs.Names.{last_path_id, within_ids}
-use Rattle.peer_model.specs.Ticks.{widen}
-use Rattle.peer_model.specs.Refusals.{most_rows, most_net_id, most_peers_set, most_filters, most_tick, most_clients, most_packet}
+use Rattle.peer_model.specs.Ticks.{tick_of, widen}
+use Rattle.peer_model.specs.Refusals.{most_rows, most_net_id, most_peers_set, most_filters, most_tick, most_clients, most_packet, call_size, frame_refusal}
 use Rattle.peer_model.specs.View.{fits}
+use Rattle.peer_model.specs.Answer.{refused}
+use Rattle.peer_rows.specs.Session.{raw, up, sends, only, nothing, reply_after}
+use Rattle.peer_rows.specs.SceneF.{server}
 
 -- the greatest numbers of everything
 abbrev pub TheLimits : Type 0
@@ -25,3 +32,24 @@ LongestValue = (fits (long_value 65528) ≡ true) × (fits (long_value 65529) �
 -- of two ticks that are equally near the greater one
 abbrev pub WidenTie : Type 0
 WidenTie = widen 98304 0 ≡ 131072
+
+-- sixty-four clients are up, and no more
+abbrev pub clients_to : ℕ → List Heard
+clients_to zero = []
+clients_to (suc n) = clients_to n ++ up (2 + n) ∷ []
+
+abbrev pub SixtyFourClients : Type 0
+SixtyFourClients = (reply_after server (clients_to 63) (up 65) ≡ nothing) × (reply_after server (clients_to 64) (up 66) ≡ refused refusal.PeersFull)
+
+-- the length of a call's packet by full path: with arguments, with none, with one run of bytes, with an empty one, and of a method past the 256th
+abbrev pub CallSizes : Type 0
+CallSizes = (call_size (codes "a/x") 0 (Text (codes "hi") ∷ []) ≡ 23) × (call_size (codes "a/x") 255 [] ≡ 10) × (call_size (codes "a/x") 0 (PackedBytes (1 ∷ 2 ∷ []) ∷ []) ≡ 12) × (call_size (codes "a/x") 0 (PackedBytes [] ∷ []) ≡ 19)
+    × (call_size (codes "a/x") 256 [] ≡ 11)
+
+-- the longest raw packet
+abbrev pub LongestRaw : Type 0
+LongestRaw = (bytes : List ℕ) → (length bytes ≡ 7999999 → reply_after server (up 2 ∷ []) (raw 2 bytes) ≡ only (sends 2 (packet.Raw bytes) ∷ [])) × (length bytes ≡ 8000000 → reply_after server (up 2 ∷ []) (raw 2 bytes) ≡ refused refusal.PacketLong)
+
+-- the last frame of a pair
+abbrev pub LastTick : Type 0
+LastTick = (es : List Heard) → peers_up es ≡ pos 2 ∷ [] → (tick_of es (pos 2) ≡ 281474976710655 → frame_refusal es ≡ None) × (tick_of es (pos 2) ≡ 281474976710656 → frame_refusal es ≡ Some refusal.TicksFull)

@@ -4,9 +4,9 @@ use Rattle.scene_model.specs.declared.event.Op.TheVariants as op
 use Rattle.scene_model.specs.declared.outcome.Refusal.TheVariants as refusal
 use Rattle.peer_model.specs.Heard.{does}
 use Rattle.peer_model.specs.Answer.{refused}
-use Rattle.peer_rows.specs.Scenes.{prop}
+use Rattle.peer_rows.specs.Scenes.{peer, prop}
 use Rattle.peer_rows.specs.Session.{spawn, custom, set, call, raw, up, down, nothing, reply_after}
-use Rattle.peer_rows.specs.SceneF.{server, two, int, spawn_x, spawn_q, public_at}
+use Rattle.peer_rows.specs.SceneF.{scene_g, server, two, int, spawn_x, spawn_q, public_at}
 use Rattle.peer_rows.specs.Limits.{long_value}
 
 -- a node that isn't a spawner, before its authority
@@ -72,3 +72,11 @@ NoSecondUp = reply_after server (up 2 ∷ down 2 ∷ []) (up 2) ≡ refused refu
 -- at a client only the server comes up by its link
 abbrev pub OnlyTheServerComesUp : Type 0
 OnlyTheServerComesUp = reply_after two (up 1 ∷ []) (up 3) ≡ refused refusal.BadPeer
+
+-- the mode before a call to this peer itself
+abbrev pub ModeBeforeItself : Type 0
+ModeBeforeItself = reply_after server [] (call 1 (codes "b") (codes "own") (int 1 ∷ [])) ≡ refused refusal.NotAllowed
+
+-- a wrong name before one that is taken
+abbrev pub WrongNameFirst : Type 0
+WrongNameFirst = reply_after (peer 1 scene_g) [] (spawn_q (codes "sp/y")) ≡ refused refusal.BadName

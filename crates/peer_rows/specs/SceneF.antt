@@ -1,5 +1,5 @@
 -- A scene with a limit, a custom spawn and nodes of two synchronizers, and short words for it.
-use Rattle.std.specs.Prelude.{ℕ, pos, true, false, List, [], ◌∷◌, Some, None, codes}
+use Rattle.std.specs.Prelude.{ℕ, pos, true, false, List, [], ◌∷◌, ◌++◌, Some, None, codes}
 use Rattle.gd_variant.specs.declared.value.Variant.{Variant}
 use Rattle.gd_variant.specs.declared.value.Variant.TheVariants.{Int}
 use Rattle.gd_variant.specs.declared.message.Plain.{Plain}
@@ -15,7 +15,7 @@ use Rattle.scene_model.specs.declared.event.Op.TheVariants as op
 use Rattle.scene_model.specs.declared.outcome.Run.{Run}
 use Rattle.peer_model.specs.Heard.{Who, Heard, does}
 use Rattle.peer_model.specs.Answer.{Parcel}
-use Rattle.peer_rows.specs.Scenes.{peer, prop, sync_prop, hit}
+use Rattle.peer_rows.specs.Scenes.{peer, prop, sync_prop, plain_node, hit}
 use Rattle.peer_rows.specs.Session.{spawn, sends}
 
 -- a method that everyone may call and that runs at its caller too
@@ -54,6 +54,10 @@ scene_f = record {
         syncs = record { of = []; public = true; props = sync_prop (codes "v") OnChange true ∷ [] } ∷ [];
       } ∷ [];
 }
+
+-- the same with a node whose path a wrong name would make
+abbrev pub scene_g : Scene
+scene_g = record { nodes = scene_f.nodes ++ plain_node (codes "a/sp/y") ∷ plain_node (codes "b/sp/y") ∷ []; scenes = scene_f.scenes }
 
 abbrev pub server : Who
 server = peer 1 scene_f

@@ -1,4 +1,4 @@
-ghost use Rattle.peer_rows.specs.Faults.{CountFirst, LengthBeforeMode, NameDiffersFirst, GreatestName, NoNameFirst, NameRefused, OneNumberTwice, NumberOfASynchronizer, RangeFirst, TooFewSynchronizers, NameBeforeValues, NoDespawnOfASynchronizer, LongArgumentCame, LongSample, BitTooHigh, RelayToOneThatIsGone, RelayToTheServer, RelayToItsSender, NoSecondNews, NoNewsOfItself, NoNewsOfTheServer, NoLinkBetweenClients, MalformedFirst};
+ghost use Rattle.peer_rows.specs.Faults.{CountFirst, LengthBeforeMode, NameDiffersFirst, GreatestName, NoNameFirst, NameRefused, OneNumberTwice, NumberOfASynchronizer, RangeFirst, TooFewSynchronizers, NameBeforeValues, NoDespawnOfASynchronizer, LongArgumentCame, LongSample, BitTooHigh, RelayToOneThatIsGone, RelayToTheServer, RelayToItsSender, NoSecondNews, NoNewsOfItself, NoNewsOfTheServer, NoLinkBetweenClients, MalformedFirst, NoSuchScene, OtherMethods, WrongNameFirst, RowsAreFull};
 
 pub fn count_first()
     ensures { CountFirst }
@@ -90,4 +90,20 @@ pub fn no_link_between_clients()
 
 pub fn malformed_first()
     ensures { MalformedFirst }
+{}
+
+pub fn no_such_scene()
+    ensures { NoSuchScene }
+{}
+
+pub fn other_methods()
+    ensures { OtherMethods }
+{}
+
+pub fn wrong_name_first()
+    ensures { WrongNameFirst }
+{}
+
+pub fn rows_are_full()
+    ensures { RowsAreFull }
 {}

@@ -1,4 +1,4 @@
-ghost use Rattle.peer_rows.specs.Limits.{TheLimits, LastPathId, LongestValue, WidenTie};
+ghost use Rattle.peer_rows.specs.Limits.{TheLimits, LastPathId, LongestValue, WidenTie, SixtyFourClients, CallSizes, LongestRaw, LastTick};
 
 pub fn the_limits()
     ensures { TheLimits }
@@ -14,4 +14,20 @@ pub fn longest_value()
 
 pub fn widen_tie()
     ensures { WidenTie }
+{}
+
+pub fn sixty_four_clients()
+    ensures { SixtyFourClients }
+{}
+
+pub fn call_sizes()
+    ensures { CallSizes }
+{}
+
+pub fn longest_raw()
+    ensures { LongestRaw }
+{}
+
+pub fn last_tick()
+    ensures { LastTick }
 {}

@@ -1,4 +1,4 @@
-ghost use Rattle.peer_rows.specs.Refusals.{NoSpawnerFirst, AuthorityBeforeScene, NameBeforeLimit, LimitIsOfTheSpawner, AuthorityBeforeProp, NotSpawnedFirst, NoSyncFirst, NoThirdSynchronizer, LongArgument, LongSetting, CallCountFirst, CallLengthBeforeMode, NoCallToOneThatIsGone, NoRawToItself, NoSecondUp, OnlyTheServerComesUp};
+ghost use Rattle.peer_rows.specs.Refusals.{NoSpawnerFirst, AuthorityBeforeScene, NameBeforeLimit, LimitIsOfTheSpawner, AuthorityBeforeProp, NotSpawnedFirst, NoSyncFirst, NoThirdSynchronizer, LongArgument, LongSetting, CallCountFirst, CallLengthBeforeMode, NoCallToOneThatIsGone, NoRawToItself, NoSecondUp, OnlyTheServerComesUp, ModeBeforeItself, WrongNameFirst};
 
 pub fn no_spawner_first()
     ensures { NoSpawnerFirst }
@@ -62,4 +62,12 @@ pub fn no_second_up()
 
 pub fn only_the_server_comes_up()
     ensures { OnlyTheServerComesUp }
+{}
+
+pub fn mode_before_itself()
+    ensures { ModeBeforeItself }
+{}
+
+pub fn wrong_name_first()
+    ensures { WrongNameFirst }
 {}

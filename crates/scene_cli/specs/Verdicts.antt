@@ -7,8 +7,8 @@ use Rattle.scene_model.specs.declared.scene.Scene.{Scene}
 use Rattle.scene_model.specs.declared.scene.SceneBad.{SceneBad}
 use Rattle.scene_model.specs.declared.scene.SceneWhy.{SceneWhy}
 use Rattle.scene_model.specs.declared.scene.SceneWhy.TheVariants as scene
-use Rattle.session_text.specs.declared.status.LineWhy.{LineWhy}
-use Rattle.session_text.specs.declared.status.LineWhy.TheVariants as why
+use Rattle.program_edge.specs.declared.status.LineWhy.{LineWhy}
+use Rattle.program_edge.specs.declared.status.LineWhy.TheVariants as why
 
 -- why an entry is wrong
 abbrev pub scene_words : SceneWhy → List ℕ
@@ -69,7 +69,15 @@ fault_text (why.Scene bad) (Ok d) = entry_text bad d
 fault_text (why.Scene bad) (Err e) = why_text why.Json
 fault_text w d = why_text w
 
+-- how many nodes and scenes there are
+abbrev pub counts_text : List ℕ → ℕ → ℕ → List ℕ
+counts_text word nodes scenes = word ++ codes ": nodes " ++ decimal nodes ++ codes ", scenes " ++ decimal scenes ++ codes "\n"
+
+-- what is told of a valid scene
+abbrev pub valid_text : Scene → List ℕ
+valid_text scene = counts_text (codes "valid") (length scene.nodes) (length scene.scenes)
+
 -- what is told of a text, by the JSON in it and what reading a scene of it came to
 abbrev pub verdict_text : Result Data LineWhy → Result Scene LineWhy → List ℕ
-verdict_text d (Ok scene) = codes "valid: nodes " ++ decimal (length scene.nodes) ++ codes ", scenes " ++ decimal (length scene.scenes) ++ codes "\n"
+verdict_text d (Ok scene) = valid_text scene
 verdict_text d (Err w) = fault_text w d

@@ -1,16 +1,15 @@
 //! What is told of a scene.
-ghost use Rattle.std.specs.Prelude.{◌≡◌, IfOk, Ok, Err, is_ok, option_map, string_bytes};
-ghost use Rattle.session_text.specs.declared.status.LineWhy.TheVariants as why;
+ghost use Rattle.std.specs.Prelude.{◌≡◌, IfOk, is_ok, option_map, string_bytes};
 ghost use Rattle.serde_json.specs.View.{view};
 ghost use Rattle.line_text.specs.Lines.{line_data};
 ghost use Rattle.line_text.specs.Scenes.{scene_line_read};
-ghost use Rattle.scene_cli.specs.Verdicts.{entry_text, fault_text, name_under, nodes_in, place_text, scene_words, verdict_text, why_text};
+ghost use Rattle.scene_cli.specs.Verdicts.{counts_text, entry_text, fault_text, name_under, nodes_in, place_text, scene_words, valid_text, verdict_text, why_text};
 
 use gd_variant::OutOfMemory;
 use line_text::{LineStop, read_scene};
+use program_edge::LineWhy;
 use scene_model::{Scene, SceneBad, SceneWhy};
 use serde_json::Value;
-use session_text::LineWhy;
 use std::alloc::Global;
 
 /// What is told, and whether the scene is valid.
@@ -130,13 +129,20 @@ fn fault(alloc: Global, line: &[u8], why: LineWhy) -> Result<String, OutOfMemory
     }
 }
 
+/// How many nodes and scenes there are, behind a word.
+fn counted(alloc: Global, word: &str, nodes: usize, scenes: usize) -> Result<String, OutOfMemory>
+    ensures { IfOk result (λ text. string_bytes text ≡ counts_text word.now nodes scenes) }
+{
+    let text = format!(in alloc; "{word}: nodes {nodes}, scenes {scenes}\n")?;
+    Ok(text)
+}
+
 /// How many nodes and scenes a valid scene has.
 fn counts(alloc: Global, scene: &Scene) -> Result<String, OutOfMemory>
-    ensures { IfOk result (λ text. string_bytes text ≡ verdict_text (Err why.Json) (Ok scene.now)) }
+    ensures { IfOk result (λ text. string_bytes text ≡ valid_text scene.now) }
 {
     let (nodes, scenes) = (scene.nodes.len(), scene.scenes.len());
-    let text = format!(in alloc; "valid: nodes {nodes}, scenes {scenes}\n")?;
-    Ok(text)
+    counted(alloc, "valid", nodes, scenes)
 }
 
 /// What is told of a text: how many nodes and scenes its scene has, or what is wrong.

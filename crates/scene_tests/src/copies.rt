@@ -1,9 +1,10 @@
 //! Copies of scenes, events, packets and outcomes, with ample memory.
 use gd_variant::{Bytes, IntsOf, Text, Variant};
 use line_text::{SessionLine, read_event, read_scene};
+use scene_check::check;
 use scene_model::{
     Class, Effects, Op, Out, OutList, Outcome, Prop, Scene, SceneDef, SceneWhy, TryClone,
-    WorldEvent, check,
+    WorldEvent,
 };
 use sqlite_items::Items;
 use std::alloc::Global;

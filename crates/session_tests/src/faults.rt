@@ -1,7 +1,7 @@
 //! Runs of a session and of packets over sources that give little or fail, and over sinks that fail.
 use crate::rows::check;
 use mp_replay::run;
-use session_text::{MemSink, MemSource};
+use program_edge::{MemSink, MemSource};
 use std::alloc::Global;
 
 /// The session of examples/first.session.

@@ -1,13 +1,13 @@
 //! Runs over lines with small limits.
 ghost use Rattle.std.specs.Prelude.{◌≡◌, ◌∷◌, [], Ok, Err, if◌then◌else◌, nat_eq};
 ghost use Rattle.std.specs.List.{list_any};
-ghost use Rattle.session_text.specs.declared.status.LineWhy.TheVariants.{Hex};
-ghost use Rattle.session_text.specs.declared.status.Status.TheVariants as status;
+ghost use Rattle.program_edge.specs.declared.status.LineWhy.TheVariants.{Hex};
+ghost use Rattle.program_edge.specs.declared.status.Status.TheVariants as status;
 
 use crate::rows::{check, with_line_feeds};
 use gd_variant::Bytes;
 use line_runs::{LineTaker, run_lines};
-use session_text::{LineStop, LineWhy, MemSink, MemSource, Status};
+use program_edge::{LineStop, LineWhy, MemSink, MemSource, Status};
 use std::alloc::Global;
 
 /// The exit status and how many lines are written; the most bytes of a line and the most bytes of the

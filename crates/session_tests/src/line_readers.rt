@@ -1,7 +1,7 @@
 //! A reader of lines over a source that gives little or fails, or has a line that is too long; and bytes
 //! that are put into a sink.
 use crate::rows::{check, with_line_feeds};
-use session_text::{LineReader, MemSink, MemSource, NextLine, ReadStop, SureSink, put_all};
+use program_edge::{LineReader, MemSink, MemSource, NextLine, ReadStop, SureSink, put_all};
 use std::alloc::Global;
 
 /// What a reader answers; the most bytes of a line, the most bytes that one call of its source gives, and

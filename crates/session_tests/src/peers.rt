@@ -13,9 +13,12 @@ fn server(alloc: Global) -> Option<Peer> {
     }
 }
 
-/// Whether a link event happens at a peer.
-fn happens(alloc: Global, peer: &mut Peer, event: Event) -> bool {
-    matches!(peer.step(alloc, event), Ok(Outcome::Done(_)))
+fn comes_up(alloc: Global, peer: &mut Peer, other: i32) -> bool {
+    matches!(peer.step(alloc, Event::Up(other)), Ok(Outcome::Done(_)))
+}
+
+fn goes_down(alloc: Global, peer: &mut Peer, other: i32) -> bool {
+    matches!(peer.step(alloc, Event::Down(other)), Ok(Outcome::Done(_)))
 }
 
 /// How many peers are up, where the peer isn't spent.
@@ -30,16 +33,16 @@ fn count_up(alloc: Global, peer: &Peer) -> Option<usize> {
 fn links_come_up_once_until_a_peer_is_spent(rt: HostRuntime) -> Result<(), Fail> {
     let alloc = rt.alloc();
     let mut peer = server(alloc).ok_or("there is memory")?;
-    assert!(rt; !happens(alloc, &mut peer, Event::Up(1)));
-    assert!(rt; happens(alloc, &mut peer, Event::Up(2)));
-    assert!(rt; !happens(alloc, &mut peer, Event::Up(2)));
+    assert!(rt; !comes_up(alloc, &mut peer, 1));
+    assert!(rt; comes_up(alloc, &mut peer, 2));
+    assert!(rt; !comes_up(alloc, &mut peer, 2));
     assert_eq!(rt; count_up(alloc, &peer), Some(1));
-    assert!(rt; happens(alloc, &mut peer, Event::Down(2)));
-    assert!(rt; !happens(alloc, &mut peer, Event::Up(2)));
+    assert!(rt; goes_down(alloc, &mut peer, 2));
+    assert!(rt; !comes_up(alloc, &mut peer, 2));
     assert_eq!(rt; count_up(alloc, &peer), Some(0));
     peer.give_up();
     assert!(rt; peer.is_spent());
-    assert!(rt; !happens(alloc, &mut peer, Event::Up(3)));
+    assert!(rt; !comes_up(alloc, &mut peer, 3));
     assert_eq!(rt; count_up(alloc, &peer), None);
     Ok(())
 }

@@ -1,171 +1,156 @@
--- The world that a script makes: the peers with their events, and the packets on the links between them.
--- A script lists what happened, newest first; what was refused isn't in it.
-use Rattle.std.specs.Prelude.{ℕ, zero, suc, ◌+◌, ℤ, pos, Bool, true, false, not, ◌&&◌, ◌||◌, List, [], ◌∷◌, ◌++◌, map, filter, length, drop, slice_get, Option, Some, None, is_none, nat_le, nat_lt, if◌then◌else◌}
+-- What a session consists of: the peers with their histories, and the packets on the links between them.
+-- Histories are newest first, the parcels of a link oldest first. A parcel that isn't reliable is called loose.
+use Rattle.std.specs.Prelude.{ℕ, zero, suc, ◌+◌, ℤ, pos, Bool, true, false, not, ◌&&◌, ◌||◌, List, [], ◌∷◌, map, filter, length, slice_get, sum_by, Option, None, nat_le}
 use Rattle.std.specs.Ordering.{int_eq}
-use Rattle.gd_variant.specs.Words.{has_int, when, first_of}
+use Rattle.gd_variant.specs.Words.{has_int, some_is}
 use Rattle.scene_model.specs.declared.scene.Scene.{Scene}
-use Rattle.scene_model.specs.declared.event.Op.{Op as Operation}
+use Rattle.scene_model.specs.declared.event.Class.{Class}
+use Rattle.scene_model.specs.declared.event.Class.TheVariants.{Unreliable, Ordered, Reliable}
 use Rattle.scene_model.specs.declared.event.Event.{Event}
-use Rattle.scene_model.specs.declared.event.Event.TheVariants as event
-use Rattle.scene_model.specs.declared.outcome.Outcome.{Outcome}
-use Rattle.scene_model.specs.declared.outcome.Outcome.TheVariants as outcome
-use Rattle.scene_model.specs.declared.outcome.Effects.{Effects}
 use Rattle.scene_model.specs.declared.outcome.Out.{Out}
-use Rattle.scene_model.specs.declared.world.WorldEvent.{WorldEvent}
-use Rattle.scene_model.specs.declared.world.WorldEvent.TheVariants.{Connect, Down, Op, Rel, Loose, Forge}
-use Rattle.scene_model.specs.declared.world.WorldOutcome.{WorldOutcome}
-use Rattle.scene_model.specs.declared.world.WorldOutcome.TheVariants as answers
-use Rattle.scene_model.specs.declared.world.WorldNo.{WorldNo}
-use Rattle.scene_model.specs.declared.world.WorldNo.TheVariants as refusal
-use Rattle.scene_model.specs.declared.world.PeerStep.{PeerStep}
-use Rattle.peer_model.specs.Heard.{Who, server}
-use Rattle.peer_model.specs.Bytes.{PacketForm, answer}
+use Rattle.peer_model.specs.Heard.{Who, Heard, server}
+use Rattle.peer_model.specs.Answer.{Reply, done, judge}
+use Rattle.peer_model.specs.Bytes.{PacketForm, heard_of}
 
--- one direction of a link: each reliable packet that was ever sent there, oldest first, and how many of them were delivered
+-- what no peer reads of a packet: who made it and for whom, the full tick where it is a sample, the path of the operation where a call made it, and whether it was forged
+pub record Tag : Type 0 where
+  pub origin : ℤ
+  pub target : ℤ
+  pub tick : Option ℕ
+  pub path : Option (List ℕ)
+  pub forged : Bool
+
+-- a packet as it lies on a link, with its tag
+pub record Parcel : Type 0 where
+  pub out : Out
+  pub tag : Tag
+
+-- one direction of a link: the reliable parcels ever sent there, and how many of them were delivered; the loose parcels ever sent there, and the index, from 1, of the last ordered one that was delivered, or 0
 pub record Way : Type 0 where
-  pub sent : List Out
+  pub sent : List Parcel
   pub delivered : ℕ
+  pub loose : List Parcel
+  pub last : ℕ
 
--- the clients that connected, newest first; the events of each peer, newest first; the ways from peer to peer
+-- an entry of a peer's history: an event, and the parcel that brought it, where one did
+pub record Came : Type 0 where
+  pub event : Event
+  pub brought : Option Parcel
+
+-- the clients that ever connected, those that went down and those that forged; the history of each peer; the way from each peer to each
 pub record World : Type 0 where
-  pub clients : List ℤ
-  pub events : ℤ → List Event
+  pub come : List ℤ
+  pub gone : List ℤ
+  pub wild : List ℤ
+  pub history : ℤ → List Came
   pub way : ℤ → ℤ → Way
 
--- the server alone
-abbrev pub start : World
-start = record { clients = []; events = λ p. []; way = λ a b. record { sent = []; delivered = 0 } }
+-- a way on which nothing was sent
+abbrev pub no_way : Way
+no_way = record { sent = []; delivered = 0; loose = []; last = 0 }
 
--- a peer of the session's scene
+-- the world at the start: the server alone
+abbrev pub start : World
+start = record { come = []; gone = []; wild = []; history = λ p. []; way = λ a b. no_way }
+
+-- a peer by its number, with the session's scene
 abbrev pub peer_of : Scene → ℤ → Who
 peer_of s p = record { id = p; scene = s }
 
--- whether a peer is in the world
+-- whether a number is that of a client that connected and didn't go down
+abbrev pub is_client : World → ℤ → Bool
+is_client w p = has_int p w.come && not (has_int p w.gone)
+
+-- whether a peer is in the world: the server is always
 abbrev pub is_in : World → ℤ → Bool
-is_in w p = int_eq p server || has_int p w.clients
+is_in w p = int_eq p server || is_client w p
 
--- what a peer answers to its next event
-abbrev pub answer_at : PacketForm → Scene → World → ℤ → Event → Outcome
-answer_at form s w p e = answer form (peer_of s p) (w.events p) e
+-- the clients that are in the world
+abbrev pub clients : World → List ℤ
+clients w = filter (λ p. not (has_int p w.gone)) w.come
 
--- the packets of an outcome
-abbrev pub packets_in : Outcome → List Out
-packets_in (outcome.Done effects) = effects.packets
-packets_in o = []
+-- the number of the next client: clients are numbered 2, 3, .. in the order of connection, and no number is used twice
+abbrev pub client_number : World → ℕ
+client_number w = 2 + length w.come
 
--- a way with the packets for the other end of its link
-abbrev pub way_with : Way → List Out → ℤ → Way
-way_with y packets b = record y { sent = y.sent ++ filter (λ (x : Out). int_eq x.link b) packets }
-
--- a peer takes an event, and its packets are put on their links
-abbrev pub fed : PacketForm → Scene → World → ℤ → Event → World
-fed form s w p e = record {
-  clients = w.clients;
-  events = λ q. if int_eq q p then e ∷ w.events q else w.events q;
-  way = λ a b. if int_eq a p then way_with (w.way a b) (packets_in (answer_at form s w p e)) b else w.way a b;
-}
-
--- clients are numbered 2, 3, .. in the order of connection
+-- the next client, as peers are named
 abbrev pub next_client : World → ℤ
-next_client w = pos (2 + length w.clients)
+next_client w = pos (client_number w)
 
--- a world with one client more
-abbrev pub with_client : World → World
-with_client w = record w { clients = next_client w ∷ w.clients }
+-- the events of a peer, whatever it answered
+abbrev pub events_at : World → ℤ → List Event
+events_at w p = map (λ (c : Came). c.event) (w.history p)
 
--- a new client: its link comes up at the server, and the server's link at the client
-abbrev pub connected : PacketForm → Scene → World → World
-connected form s w = fed form s (fed form s (with_client w) server (event.Up (next_client w))) (next_client w) (event.Up server)
+-- entries as the definitions of a peer see them
+abbrev pub heard_in : PacketForm → List Came → List Heard
+heard_in form cs = map (λ (c : Came). heard_of form c.event) cs
 
--- the next packet of a way
-abbrev pub next_of : Way → Option Out
+-- an entry before others, where its answer is Done
+abbrev pub keep_entry : Came → List Came → Reply → List Came
+keep_entry c cs (done d) = c ∷ cs
+keep_entry c cs r = cs
+
+-- a history without the entries whose answer isn't Done
+abbrev pub accepted_entries : PacketForm → Who → List Came → List Came
+accepted_entries form who [] = []
+accepted_entries form who (c ∷ cs) = keep_next_entry (accepted_entries form who cs)
+  where
+    keep_next_entry : List Came → List Came
+    keep_next_entry kept = keep_entry c kept (judge who (heard_in form kept) (heard_of form c.event))
+
+-- the entries that a peer accepted
+abbrev pub accepted_history : PacketForm → Scene → World → ℤ → List Came
+accepted_history form s w p = accepted_entries form (peer_of s p) (w.history p)
+
+-- the events that a peer accepted
+abbrev pub accepted_at : PacketForm → Scene → World → ℤ → List Heard
+accepted_at form s w p = heard_in form (accepted_history form s w p)
+
+-- parcels
+
+-- whether a class is the reliable one
+abbrev pub is_reliable : Class → Bool
+is_reliable Reliable = true
+is_reliable Unreliable = false
+is_reliable Ordered = false
+
+-- whether a class is the ordered one
+abbrev pub is_ordered : Class → Bool
+is_ordered Ordered = true
+is_ordered Unreliable = false
+is_ordered Reliable = false
+
+-- whether an honest peer made a parcel for another
+abbrev pub is_from_to : ℤ → ℤ → Parcel → Bool
+is_from_to a b p = not p.tag.forged && int_eq p.tag.origin a && int_eq p.tag.target b
+
+-- the next reliable parcel of a way, where one waits
+abbrev pub next_of : Way → Option Parcel
 next_of y = slice_get y.sent y.delivered
 
--- a world in which one packet more of a way was delivered
-abbrev pub with_delivered : World → ℤ → ℤ → World
-with_delivered w from to = record w { way = λ a b. if int_eq a from && int_eq b to then record (w.way a b) { delivered = (w.way a b).delivered + 1 } else w.way a b }
+-- the loose parcel with an index, from 1
+abbrev pub loose_at : Way → ℕ → Option Parcel
+loose_at y zero = None
+loose_at y (suc i) = slice_get y.loose i
 
--- a packet as its receiver sees it
-abbrev pub received : ℤ → Out → Event
-received from x = event.Received from x.class x.bytes
+-- the bytes in flight
 
--- the next packet of a way is delivered
-abbrev pub delivered_next : PacketForm → Scene → World → ℤ → ℤ → Option Out → World
-delivered_next form s w a b None = w
-delivered_next form s w a b (Some x) = fed form s (with_delivered w a b) b (received a x)
+-- the bytes of some parcels' packets
+abbrev pub bytes_of : List Parcel → ℕ
+bytes_of ps = sum_by (λ (p : Parcel). length p.out.bytes) ps
 
--- what happens; a client that goes down, loose packets and forged ones aren't built
-abbrev pub happens : PacketForm → Scene → World → WorldEvent → World
-happens form s w Connect = connected form s w
-happens form s w (Op p op) = fed form s w p (event.Op op)
-happens form s w (Rel a b) = delivered_next form s w a b (next_of (w.way a b))
-happens form s w e = w
+-- the bytes that were ever put on a way
+abbrev pub way_bytes : Way → ℕ
+way_bytes y = bytes_of y.sent + bytes_of y.loose
 
--- the world of a script
-abbrev pub world : PacketForm → Scene → List WorldEvent → World
-world form s [] = start
-world form s (e ∷ es) = happens form s (world form s es) e
+-- the bytes ever put in flight, also those on the links of clients that went; a packet counts once for each link on which it was put
+abbrev pub bytes_in_flight : World → ℕ
+bytes_in_flight w = sum_by (λ p. way_bytes (w.way server p) + way_bytes (w.way p server)) w.come
 
--- the most clients that are up, and the greatest number of a client
-abbrev pub most_clients : ℕ
-most_clients = 64
+-- the most bytes that may ever be in flight
+abbrev pub most_in_flight : ℕ
+most_in_flight = 536870912
 
--- why an event is refused: the first row that holds
-abbrev pub refused_by : World → WorldEvent → Option WorldNo
-refused_by w Connect = when (nat_le most_clients (length w.clients)) refusal.PeersFull
-refused_by w (Op p op) = when (not (is_in w p)) refusal.NoPeer
-refused_by w (Rel a b) = first_of (
-    when (not (is_in w a && is_in w b)) refusal.NoPeer
-    ∷ when (int_eq a b || (not (int_eq a server) && not (int_eq b server))) refusal.NotLink
-    ∷ when (is_none (next_of (w.way a b))) refusal.NothingInFlight
-    ∷ [])
-refused_by w e = None
-
--- what one peer did
-abbrev pub step_of : ℤ → Effects → PeerStep
-step_of p effects = record { peer = p; effects = effects }
-
--- no effects
-abbrev pub effects_in : Outcome → Effects
-effects_in (outcome.Done effects) = effects
-effects_in o = record { packets = []; runs = []; raws = []; skips = [] }
-
--- what is answered to a connect
-abbrev pub connect_answer : PacketForm → Scene → World → WorldOutcome
-connect_answer form s w = answers.Done (Some (next_client w)) (
-    step_of server (effects_in (answer_at form s w server (event.Up (next_client w))))
-    ∷ step_of (next_client w) (effects_in (answer_at form s (fed form s (with_client w) server (event.Up (next_client w))) (next_client w) (event.Up server)))
-    ∷ [])
-
--- what is answered to an event of one peer
-abbrev pub peer_answer : ℤ → Outcome → WorldOutcome
-peer_answer p (outcome.Done effects) = answers.Done None (step_of p effects ∷ [])
-peer_answer p (outcome.Refused r) = answers.OpRefused r
-peer_answer p (outcome.Fault f) = answers.Fault p f
-
--- what is answered to a delivery
-abbrev pub delivery_answer : PacketForm → Scene → World → ℤ → ℤ → Option Out → WorldOutcome
-delivery_answer form s w a b None = answers.Refused refusal.NothingInFlight
-delivery_answer form s w a b (Some x) = peer_answer b (answer_at form s w b (received a x))
-
--- what is answered to an event that isn't refused
-abbrev pub accepted_answer : PacketForm → Scene → World → WorldEvent → WorldOutcome
-accepted_answer form s w Connect = connect_answer form s w
-accepted_answer form s w (Op p op) = peer_answer p (answer_at form s w p (event.Op op))
-accepted_answer form s w (Rel a b) = delivery_answer form s w a b (next_of (w.way a b))
-accepted_answer form s w e = answers.Done None []
-
--- the refusal, else the answer
-abbrev pub refused_or : Option WorldNo → WorldOutcome → WorldOutcome
-refused_or (Some r) o = answers.Refused r
-refused_or None o = o
-
--- what is answered to an event after a script
-abbrev pub world_answer : PacketForm → Scene → World → WorldEvent → WorldOutcome
-world_answer form s w e = refused_or (refused_by w e) (accepted_answer form s w e)
-
--- whether an event happened
-abbrev pub happened : WorldOutcome → Bool
-happened (answers.Refused r) = false
-happened (answers.OpRefused r) = false
-happened o = true
+-- whether all that was ever put in flight is within that
+abbrev pub has_room : World → Bool
+has_room w = nat_le (bytes_in_flight w) most_in_flight

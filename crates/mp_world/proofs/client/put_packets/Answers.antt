@@ -1,10 +1,7 @@
-use Rattle.std.proofs.Common.{sym}
-use Rattle.mp_world.proofs.Places.{nothing_put}
-use Rattle.mp_world.proofs.Puts.{put_next}
+use Rattle.std.proofs.Common.{arith}
+use Rattle.mp_world.proofs.Puts.{put_step}
 use Rattle.mp_world.proofs.client.put_packets.Goals as goal
 
-pub loop-packet-init : goal.loop-packet-init
-loop-packet-init c = sym (nothing_put 0 c.args.clients.now.items)
-
-pub loop-packet-preserved : goal.loop-packet-preserved
-loop-packet-preserved c = put_next c.args.packets.now c.loop-packet.packet-index c.packet-item.result c.args.clients.now.items c.loop-packet.clients.items _ c.loop-packet-test.true c.packet-item.is c.loop-packet.invariant c.in_ok-put_packet.ensures
+pub loop-place-preserved : goal.loop-place-preserved
+loop-place-preserved c =
+    put_step c.args.packets.now c.args.clients.now.items c.loop-place.clients.items c.loop-place.place c.index_mut.result.now _ (omega (arith, c.loop-place-test.true, c.len-place-end.ensures, c.args.clients.now.ok.0)) c.loop-place.invariant c.index_mut.ensures.value c.in_ok-put_down.ensures

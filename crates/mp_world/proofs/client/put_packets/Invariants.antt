@@ -1,6 +1,7 @@
-use Rattle.std.proofs.Common.{◌≡◌, take}
-use Rattle.mp_world.specs.Steps.{with_packets}
+use Rattle.std.proofs.Common.{◌≡◌}
+use Rattle.mp_world.proofs.Puts.{put_front}
 use Rattle.mp_world.proofs.client.put_packets.Given as goal
 
-abbrev pub invariant-loop-packet : goal.invariant-loop-packet
-invariant-loop-packet l = l.clients.items ≡ with_packets (take l.packet-index l.packets) 0 l.fn.clients.items
+-- the clients before the place have their packets
+abbrev pub invariant-loop-place : goal.invariant-loop-place
+invariant-loop-place l = l.clients.items ≡ put_front l.packets l.place l.fn.clients.items

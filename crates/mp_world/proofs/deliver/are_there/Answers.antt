@@ -1,14 +1,14 @@
 use Rattle.std.proofs.Common.{sym, ap, ◌∙◌}
 use Rattle.std.specs.Prelude.{◌&&◌}
-use Rattle.mp_world.specs.Steps.{live_parts, has_peer}
+use Rattle.world_steps.specs.Steps.{live_parts, has_peer}
 use Rattle.mp_world.proofs.deliver.are_there.Goals as goal
 
 pub returns-then-is_there : goal.returns-then-is_there
-returns-then-is_there c = λ k.
-    let v = live_parts k c.args.clients.now.items in
-    c.is_there-then-is_there.ensures k ∙ ap (λ b. b && has_peer v c.args.to.now) (sym (sym (c.is_there.ensures k) ∙ c.if-is_there.true))
+returns-then-is_there c = λ k come.
+    let v = live_parts k come c.args.clients.now.items in
+    c.is_there-then-is_there.ensures k come ∙ ap (λ b. b && has_peer v c.args.to.now) (sym (sym (c.is_there.ensures k come) ∙ c.if-is_there.true))
 
 pub returns-else-is_there : goal.returns-else-is_there
-returns-else-is_there c = λ k.
-    let v = live_parts k c.args.clients.now.items in
-    c.if-is_there.false ∙ ap (λ b. b && has_peer v c.args.to.now) (sym (sym (c.is_there.ensures k) ∙ c.if-is_there.false))
+returns-else-is_there c = λ k come.
+    let v = live_parts k come c.args.clients.now.items in
+    c.if-is_there.false ∙ ap (λ b. b && has_peer v c.args.to.now) (sym (sym (c.is_there.ensures k come) ∙ c.if-is_there.false))

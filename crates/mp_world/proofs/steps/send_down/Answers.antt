@@ -1,5 +1,5 @@
 use Rattle.std.proofs.Common.{ap}
-use Rattle.world_model.specs.World.{packets_in}
+use Rattle.world_model.specs.Happens.{packets_in}
 use Rattle.mp_world.proofs.Takes.{sends_nothing}
 use Rattle.mp_world.proofs.steps.send_down.Goals as goal
 

@@ -1,4 +1,4 @@
-use Rattle.mp_world.proofs.Waiting.{front_taken}
+use Rattle.world_steps.proofs.Waiting.{front_taken}
 use Rattle.mp_world.proofs.way.take_next.Goals as goal
 
 pub returns : goal.returns

@@ -1,0 +1,16 @@
+pub mod SoundValues
+pub mod Writable
+pub mod Links
+pub mod Lists
+pub mod Numbers
+pub mod Readable
+pub mod Runs
+pub mod Happenings
+pub mod Pairs
+pub mod Reports
+pub mod Waiting
+pub mod Peers
+pub mod Places
+pub mod Keeping
+pub mod Steps
+pub mod Calls

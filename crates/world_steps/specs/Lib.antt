@@ -1,0 +1,5 @@
+pub mod Sound
+pub mod Pairs
+pub mod Scripts
+pub mod Steps
+pub mod Stands
