@@ -5,6 +5,7 @@ use Rattle.std.specs.List.{list_all}
 use Rattle.std.proofs.lemmas.Bool.Decides.{nat_tests}
 use Rattle.std.proofs.lemmas.Bool.{and_parts}
 use Rattle.gd_variant.specs.declared.value.Variant.{Variant}
+use Rattle.scene_model.specs.declared.scene.Scene.{Scene}
 use Rattle.scene_model.specs.declared.scene.SyncDef.{SyncDef}
 use Rattle.gd_variant.specs.Words.{has_nat, when, first_some}
 use Rattle.scene_model.specs.declared.spawn.SpawnMsg.{SpawnMsg}
@@ -12,7 +13,6 @@ use Rattle.scene_model.specs.declared.outcome.Fault.{Fault}
 use Rattle.scene_model.specs.declared.outcome.Fault.TheVariants as fault
 use Rattle.scene_model.specs.Paths.{is_name}
 use Rattle.scene_model.specs.Lookup.{fixed_node_at}
-use Rattle.peer_model.specs.Heard.{Who}
 use Rattle.peer_model.specs.Rows.{syncs_at}
 use Rattle.peer_model.specs.Updates.{Live, live_at, spawner_with, shown_place, shown_path, all_spawn_props}
 use Rattle.peer_model.specs.Refusals.{most_rows, argument_fits}
@@ -28,40 +28,40 @@ use Rattle.peer_steps.proofs.Knowns.{first_new, new_for, known_first}
 use Rattle.peer_steps.proofs.SpawnParts.{first-append}
 
 -- the parts of why a spawn is a fault, one after the other
-pub judged_is : (who : Who) (nodes : List Live) (c : ℤ) (m : SpawnMsg) → judged_beside who.scene nodes (length (rows_under c nodes)) c m ≡ shown_judged who nodes c m
-judged_is who nodes c m =
-    let meanings : List (Option Fault) = when (is_none (fixed_node_at who.scene m.spawner)) (fault.NoName m.spawner)
-    ∷ when (is_none (spawner_with who.scene m.spawner)) fault.NoSpawner
-    ∷ when (not (auth_is c (fixed_node_at who.scene m.spawner))) fault.NotAuthority
-    ∷ when (is_none (shown_name who.scene m)) fault.NoScene ∷ [] in
+pub judged_is : (s : Scene) (nodes : List Live) (c : ℤ) (m : SpawnMsg) → judged_beside s nodes (length (rows_under c nodes)) c m ≡ shown_judged s nodes c m
+judged_is s nodes c m =
+    let meanings : List (Option Fault) = when (is_none (fixed_node_at s m.spawner)) (fault.NoName m.spawner)
+    ∷ when (is_none (spawner_with s m.spawner)) fault.NoSpawner
+    ∷ when (not (auth_is c (fixed_node_at s m.spawner))) fault.NotAuthority
+    ∷ when (is_none (shown_name s m)) fault.NoScene ∷ [] in
     let ids : List (Option Fault) = option_map fault.IdRange (find bad_id (m.net ∷ m.syncs))
     ∷ option_map fault.KnownNet (first_known (known_ids (rows_under c nodes)) (m.net ∷ m.syncs)) ∷ [] in
     let places : List (Option Fault) = when (not (is_name m.name)) fault.BadName
-    ∷ when (is_some (live_at nodes (shown_path who.scene m))) fault.NameTaken
+    ∷ when (is_some (live_at nodes (shown_path s m))) fault.NameTaken
     ∷ when (nat_le most_rows (length (rows_under c nodes))) fault.NodesFull
-    ∷ when (wrong_spawn (syncs_at who.scene (shown_place who.scene m)) m) fault.WrongValues ∷ [] in
-    ap (first_some (meaning_judged who.scene c m)) (sym (first-append ids places)) ∙ sym (first-append meanings (ids ++ places))
+    ∷ when (wrong_spawn (syncs_at s (shown_place s m)) m) fault.WrongValues ∷ [] in
+    ap (first_some (meaning_judged s c m)) (sym (first-append ids places)) ∙ sym (first-append meanings (ids ++ places))
 
 -- what is known of a spawn that is no fault
-pub record IsAdmitted (who : Who) (nodes : List Live) (c : ℤ) (m : SpawnMsg) : Type 0 where
-  pub meant : is_none (shown_name who.scene m) ≡ false
+pub record IsAdmitted (s : Scene) (nodes : List Live) (c : ℤ) (m : SpawnMsg) : Type 0 where
+  pub meant : is_none (shown_name s m) ≡ false
   pub fresh : first_known (known_ids (rows_under c nodes)) (m.net ∷ m.syncs) ≡ None
-  pub free : is_some (live_at nodes (shown_path who.scene m)) ≡ false
+  pub free : is_some (live_at nodes (shown_path s m)) ≡ false
   pub room : nat_le most_rows (length (rows_under c nodes)) ≡ false
-  pub values : wrong_spawn (syncs_at who.scene (shown_place who.scene m)) m ≡ false
+  pub values : wrong_spawn (syncs_at s (shown_place s m)) m ≡ false
 
-pub admitted : (who : Who) (nodes : List Live) (c : ℤ) (m : SpawnMsg) → shown_judged who nodes c m ≡ None → IsAdmitted who nodes c m
-admitted who nodes c m h =
-    let a = no_row (is_none (fixed_node_at who.scene m.spawner)) (fault.NoName m.spawner) _ h in
-    let b = no_row (is_none (spawner_with who.scene m.spawner)) fault.NoSpawner _ a.1 in
-    let d = no_row (not (auth_is c (fixed_node_at who.scene m.spawner))) fault.NotAuthority _ b.1 in
-    let e = no_row (is_none (shown_name who.scene m)) fault.NoScene _ d.1 in
+pub admitted : (s : Scene) (nodes : List Live) (c : ℤ) (m : SpawnMsg) → shown_judged s nodes c m ≡ None → IsAdmitted s nodes c m
+admitted s nodes c m h =
+    let a = no_row (is_none (fixed_node_at s m.spawner)) (fault.NoName m.spawner) _ h in
+    let b = no_row (is_none (spawner_with s m.spawner)) fault.NoSpawner _ a.1 in
+    let d = no_row (not (auth_is c (fixed_node_at s m.spawner))) fault.NotAuthority _ b.1 in
+    let e = no_row (is_none (shown_name s m)) fault.NoScene _ d.1 in
     let f = no_first (option_map fault.IdRange (find bad_id (m.net ∷ m.syncs))) _ e.1 in
     let g = no_first (option_map fault.KnownNet (first_known (known_ids (rows_under c nodes)) (m.net ∷ m.syncs))) _ f.1 in
     let i = no_row (not (is_name m.name)) fault.BadName _ g.1 in
-    let j = no_row (is_some (live_at nodes (shown_path who.scene m))) fault.NameTaken _ i.1 in
+    let j = no_row (is_some (live_at nodes (shown_path s m))) fault.NameTaken _ i.1 in
     let k = no_row (nat_le most_rows (length (rows_under c nodes))) fault.NodesFull _ j.1 in
-    let l = no_row (wrong_spawn (syncs_at who.scene (shown_place who.scene m)) m) fault.WrongValues [] k.1 in
+    let l = no_row (wrong_spawn (syncs_at s (shown_place s m)) m) fault.WrongValues [] k.1 in
     record { meant = e.0; fresh = none_mapped fault.KnownNet (first_known (known_ids (rows_under c nodes)) (m.net ∷ m.syncs)) g.0; free = j.0; room = k.0; values = l.0 }
 
 none_of : (test : ℕ → Bool) (seen ids : List ℕ) → first_new test seen ids ≡ None → list_all (λ id. not (test id)) ids ≡ true

@@ -1,29 +1,30 @@
 -- What the clauses of a peer's calls come to: a new peer, a step by what it took, and a report.
-use Rattle.std.proofs.Common.{◌≡◌, true, false, List, [], ◌∷◌, sym, ap, ap₂, ◌∙◌, subst, map}
+use Rattle.std.proofs.Common.{◌≡◌, ℤ, true, false, List, [], ◌∷◌, refl, sym, ap, ap₂, ◌∙◌, subst, map}
 use Rattle.scene_model.specs.declared.event.Event.{Event}
 use Rattle.scene_model.specs.declared.outcome.Outcome.{Outcome}
+use Rattle.scene_model.specs.declared.scene.Scene.{Scene}
 use Rattle.scene_model.specs.Valid.{IsValidScene}
 use Rattle.peer_model.specs.Heard.{Heard}
 use Rattle.peer_model.specs.View.{report_of, row_of}
 use Rattle.peer_model.specs.Bytes.{PacketForm}
-use Rattle.headless_tree.specs.Nodes.{fixed_nodes}
 use Rattle.peer_laws.proofs.TreeStart.{tree_start}
-use Rattle.peer_steps.specs.Kept.{Kept}
+use Rattle.peer_steps.specs.Kept.{Kept, new_kept}
 use Rattle.peer_steps.specs.Stands.{HasParts, StandsFor, is_answered, built_answer, is_built_event}
 use Rattle.peer_steps.specs.Steps.{Taken, taken, is_done}
 use Rattle.peer_steps.proofs.Whole.{taken_right, kept_still}
 
 -- a new peer stands for no events
-pub start_stands : (form : PacketForm) (k : Kept) → k.spent ≡ false → IsValidScene k.who.scene → k.come ≡ [] → k.up ≡ [] → k.nodes ≡ fixed_nodes k.who.scene → k.next ≡ 1 → k.rows ≡ [] → StandsFor form k []
-start_stands form k live valid come up nodes next rows = record {
-  live = live;
+pub start_stands : (form : PacketForm) (id : ℤ) (s : Scene) → IsValidScene s → StandsFor form (new_kept id s) []
+start_stands form id s valid = record {
+  live = refl;
   valid = valid;
   accepted = tt;
-  come = come;
-  up = up;
-  nodes = nodes ∙ sym (tree_start k.who valid);
-  next = next;
-  rows = rows;
+  me = refl;
+  come = refl;
+  up = refl;
+  nodes = sym (tree_start (record { id = id; scene = s }) valid);
+  next = refl;
+  rows = refl;
 }
 
 -- a step that made this outcome and keeps this
@@ -38,5 +39,5 @@ pub step_unchanged : (form : PacketForm) (k j : Kept) (e : Event) (o : Outcome) 
 step_unchanged form k j e o made h = ap (λ (t : Taken). t.kept) made ∙ kept_still form k e (sym (ap (λ (t : Taken). is_done t.outcome) made) ∙ h)
 
 -- a report tells who is up and how every node stands
-pub reported : (k : Kept) (es : List Heard) → HasParts k es → record { peers = k.up; rows = map row_of k.nodes } ≡ report_of k.who es
+pub reported : (k : Kept) (es : List Heard) → HasParts k es → record { peers = k.peers.up; rows = map row_of k.nodes } ≡ report_of k.who es
 reported k es h = ap₂ (λ us ns. record { peers = us; rows = map row_of ns }) h.up h.nodes

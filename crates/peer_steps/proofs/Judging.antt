@@ -1,5 +1,5 @@
 -- What is kept judges an event as the definitions do.
-use Rattle.std.proofs.Common.{◌≡◌, ℕ, suc, ◌+◌, ℤ, pos, Bool, true, false, cond, not, ◌&&◌, ◌||◌, List, [], ◌∷◌, ◌++◌, refl, sym, ap, ap₂, ◌∙◌, length, map, filter, reverse, is_some, Option, Some, None}
+use Rattle.std.proofs.Common.{◌≡◌, ℕ, suc, ◌+◌, ℤ, pos, Bool, true, false, cond, not, ◌&&◌, ◌||◌, List, [], ◌∷◌, ◌++◌, refl, sym, ap, ap₂, ◌∙◌, subst, arith, length, map, filter, reverse, is_some, Option, Some, None}
 use Rattle.std.specs.Prelude.{flat_map, is_none, nat_le, nat_lt, int_lt, if◌then◌else◌}
 use Rattle.std.specs.List.{list_any}
 use Rattle.std.specs.Ordering.{int_eq}
@@ -17,7 +17,7 @@ use Rattle.scene_model.specs.declared.outcome.Fault.TheVariants as fault
 use Rattle.scene_model.specs.Paths.{is_name}
 use Rattle.scene_model.specs.Lookup.{spawner_at}
 use Rattle.peer_model.specs.Heard.{Who, Heard, is_server, server}
-use Rattle.peer_model.specs.Peers.{is_up, was_up, peers_come}
+use Rattle.peer_model.specs.Peers.{is_up, was_up, peers_come, peers_up}
 use Rattle.peer_model.specs.Rows.{OwnRow, own_rows, next_number, spawned_path, spawned_scene, syncs_at}
 use Rattle.peer_model.specs.Values.{scene_made, props_in}
 use Rattle.peer_model.specs.Updates.{Live, live_at}
@@ -26,11 +26,13 @@ use Rattle.peer_model.specs.Refusals.{most_rows, most_net_id, most_clients, owns
 use Rattle.peer_model.specs.Faults.{link_fault, spawn_fault}
 use Rattle.peer_model.proofs.Links.{was_up_come}
 use Rattle.peer_laws.specs.Facts.{rows_under}
+use Rattle.peer_laws.proofs.Numbers.{int_is}
 use Rattle.peer_laws.proofs.Ups.{has_up}
 use Rattle.peer_steps.specs.Rows.{kept_row}
 use Rattle.peer_steps.specs.Kept.{Kept}
 use Rattle.peer_steps.specs.Spawns.{rows_of_spawner, is_at_limit, spawn_judged, shown_judged}
-use Rattle.peer_steps.specs.Judged.{up_judged, down_judged, set_judged, link_judged}
+use Rattle.peer_steps.specs.Peers.{comes_judged}
+use Rattle.peer_steps.specs.Judged.{lacks_server, set_judged, link_judged}
 use Rattle.peer_steps.specs.Stands.{HasParts}
 
 -- links
@@ -55,23 +57,61 @@ any-reverse p (x ∷ xs) =
     ∙ or_comm (list_any p xs) (p x)
 
 -- a peer came up before where it is among those that came
-came_is : (k : Kept) (es : List Heard) → HasParts k es → (b : ℤ) → has_int b k.come ≡ was_up es b
+came_is : (k : Kept) (es : List Heard) → HasParts k es → (b : ℤ) → has_int b k.peers.come ≡ was_up es b
 came_is k es h b = ap (has_int b) h.come ∙ any-reverse (int_eq b) (peers_come es) ∙ sym (was_up_come es b)
 
-up_is : (k : Kept) (es : List Heard) → HasParts k es → (b : ℤ) → has_int b k.up ≡ is_up es b
+up_is : (k : Kept) (es : List Heard) → HasParts k es → (b : ℤ) → has_int b k.peers.up ≡ is_up es b
 up_is k es h b = ap (has_int b) h.up ∙ has_up es b
 
-pub up_judged_is : (k : Kept) (es : List Heard) → HasParts k es → (b : ℤ) → up_judged k.who k.come k.up b ≡ up_refusal k.who es b
-up_judged_is k es h b = ap₂ (λ (c : Bool) (us : List ℤ). first_of (
-    when (int_eq b k.who.id || c || (if is_server k.who then int_lt b (pos 2) else not (int_eq b server))) BadPeer
-    ∷ when (is_server k.who && nat_le most_clients (length us)) PeersFull
-    ∷ [])) (came_is k es h b) h.up
+-- why a link isn't taken up, by whether this peer is the server, the other is, and whether there is no room
+abbrev up_why : Bool → Bool → Bool → Bool → Option Refusal
+up_why here there bad full = if not here && not there then Some BadPeer else first_of (when bad BadPeer ∷ when (here && full) PeersFull ∷ [])
 
-pub down_judged_is : (k : Kept) (es : List Heard) → HasParts k es → (b : ℤ) → down_judged k.up b ≡ down_refusal es b
+-- the same, where a bad link is told for the server and for clients apart
+by_side : (here there low own was below full : Bool) → (here ≡ true → below ≡ (low || own)) → (there ≡ true → low ≡ false)
+    → up_why here there (low || own || was) full ≡ first_of (when (own || was || (if here then below else not there)) BadPeer ∷ when (here && full) PeersFull ∷ [])
+by_side true there low own was below full two one = ap (λ t. first_of (when t BadPeer ∷ when full PeersFull ∷ [])) (shuffled low own was ∙ ap (λ t. own || was || t) (sym (two refl)))
+  where
+    shuffled : (low own was : Bool) → (low || own || was) ≡ (own || was || (low || own))
+    shuffled true true was = refl
+    shuffled true false true = refl
+    shuffled true false false = refl
+    shuffled false true was = refl
+    shuffled false false true = refl
+    shuffled false false false = refl
+by_side false true low own was below full two one = ap (λ t. first_of (when t BadPeer ∷ None ∷ [])) (ap (λ t. t || own || was) (one refl) ∙ sym (or_none (own || was)))
+by_side false false low own was below full two one = sym (ap (λ t. first_of (when t BadPeer ∷ None ∷ [])) (ends_true own was))
+  where
+    ends_true : (own was : Bool) → (own || was || true) ≡ true
+    ends_true true was = refl
+    ends_true false true = refl
+    ends_true false false = refl
+
+-- a number below 2 is one below 1 or the server's
+below_two : (me b : ℤ) → int_eq me server ≡ true → int_lt b (pos 2) ≡ (int_lt b (pos 1) || int_eq b me)
+below_two me b e = subst (λ m. int_lt b (pos 2) ≡ (int_lt b (pos 1) || int_eq b m)) (sym (int_is me server e)) (grind arith)
+
+-- the server's number isn't below 1
+server_above : (b : ℤ) → int_eq b server ≡ true → int_lt b (pos 1) ≡ false
+server_above b e = ap (λ c. int_lt c (pos 1)) (int_is b server e)
+
+-- a link that comes up is judged as the definitions do
+pub up_judged_is : (k : Kept) (es : List Heard) → HasParts k es → (b : ℤ) → (if lacks_server k.peers.me b then Some BadPeer else comes_judged k.peers b) ≡ up_refusal k.who es b
+up_judged_is k es h b =
+    ap (λ (m : ℤ). up_why (int_eq m server) (int_eq b server) (int_lt b (pos 1) || int_eq b m || has_int b k.peers.come) (nat_le most_clients (length k.peers.up))) h.me
+    ∙ ap₂ (λ (c : Bool) (us : List ℤ). up_why (is_server k.who) (int_eq b server) (int_lt b (pos 1) || int_eq b k.who.id || c) (nat_le most_clients (length us))) (came_is k es h b) h.up
+    ∙ by_side (is_server k.who) (int_eq b server) (int_lt b (pos 1)) (int_eq b k.who.id) (was_up es b) (int_lt b (pos 2)) (nat_le most_clients (length (peers_up es)))
+    (below_two_of k.who b) (server_above b)
+  where
+    below_two_of : (who : Who) (b : ℤ) → is_server who ≡ true → int_lt b (pos 2) ≡ (int_lt b (pos 1) || int_eq b who.id)
+    below_two_of who b e = below_two who.id b e
+
+-- a link goes down as the definitions say
+pub down_judged_is : (k : Kept) (es : List Heard) → HasParts k es → (b : ℤ) → when (not (has_int b k.peers.up)) NoPeer ≡ down_refusal es b
 down_judged_is k es h b = ap (λ c. when (not c) NoPeer) (up_is k es h b)
 
-pub link_judged_is : (k : Kept) (es : List Heard) → HasParts k es → (from : ℤ) → link_judged k.who k.up from ≡ link_fault k.who es from
-link_judged_is k es h from = ap (λ c. when (not c || (not (is_server k.who) && not (int_eq from server))) (fault.UnknownPeer from)) (up_is k es h from)
+pub link_judged_is : (k : Kept) (es : List Heard) → HasParts k es → (from : ℤ) → link_judged k.peers from ≡ link_fault k.who es from
+link_judged_is k es h from = ap₂ (λ c m. when (not c || (not (int_eq m server) && not (int_eq from server))) (fault.UnknownPeer from)) (up_is k es h from) h.me
 
 -- spawns
 
@@ -101,9 +141,9 @@ spawn_rows who nodes full count next o = first_of (
     ∷ when (nat_lt most_net_id (next + length (syncs_at who.scene (spawned_scene who o)))) NetIdsFull
     ∷ flat_map (setting_refusals (props_in (scene_made who o))) o.sets ++ when (not (argument_fits o.arg)) ValueTooLong ∷ [])
 
-pub spawn_judged_is : (k : Kept) (es : List Heard) → HasParts k es → (o : SpawnOp) → spawn_judged k.who k.nodes k.rows k.next o ≡ spawn_refusal k.who es o
+pub spawn_judged_is : (k : Kept) (es : List Heard) → HasParts k es → (o : SpawnOp) → spawn_judged k.who k.nodes k.track.rows k.track.next o ≡ spawn_refusal k.who es o
 spawn_judged_is k es h o =
-    ap₂ (λ ns rs. spawn_judged k.who ns rs k.next o) h.nodes h.rows
+    ap₂ (λ ns rs. spawn_judged k.who ns rs k.track.next o) h.nodes h.rows
     ∙ ap (λ n. spawn_judged k.who (tree_of k.who es) (map (kept_row k.who) (own_rows k.who es)) n o) h.next
     ∙ ap₂ (λ full count. spawn_rows k.who (tree_of k.who es) full count (next_number k.who es) o) (limit_is k.who es o.spawner (spawner_at k.who.scene o.spawner)) (length-map (own_rows k.who es) (kept_row k.who))
 
@@ -116,5 +156,5 @@ set_judged_is k es h path prop value = ap (λ ns. set_judged k.who ns path prop 
 
 -- a received spawn is judged beside the rows that its sender has in the tree
 pub shown_judged_is : (k : Kept) (es : List Heard) → HasParts k es → (c : ℤ) (m : SpawnMsg) → rows_under c (tree_of k.who es) ≡ (view k.who es c).rows
-    → shown_judged k.who k.nodes c m ≡ spawn_fault k.who es c m (view k.who es c).rows
-shown_judged_is k es h c m under = ap (λ ns. shown_judged k.who ns c m) h.nodes ∙ ap (spawn_fault k.who es c m) under
+    → shown_judged k.who.scene k.nodes c m ≡ spawn_fault k.who es c m (view k.who es c).rows
+shown_judged_is k es h c m under = ap (λ ns. shown_judged k.who.scene ns c m) h.nodes ∙ ap (spawn_fault k.who es c m) under

@@ -1,5 +1,5 @@
 -- What the calls of the code make, in the words of what they take.
-use Rattle.std.specs.Prelude.{ℕ, ℤ, not, List, [], ◌∷◌, map, Option, Some, None, if◌then◌else◌}
+use Rattle.std.specs.Prelude.{ℕ, ℤ, not, List, [], ◌∷◌, map, Option, if◌then◌else◌}
 use Rattle.std.specs.Ordering.{int_eq}
 use Rattle.gd_variant.specs.Words.{when, first_of}
 use Rattle.gd_variant.specs.declared.value.Variant.{Variant}
@@ -11,7 +11,6 @@ use Rattle.scene_model.specs.Lookup.{has_prop}
 use Rattle.peer_model.specs.Updates.{Live}
 use Rattle.peer_model.specs.View.{fits}
 use Rattle.peer_model.specs.Bytes.{PacketForm}
-use Rattle.headless_tree.specs.Nodes.{assigned}
 use Rattle.peer_laws.specs.Shown.{is_open}
 use Rattle.peer_steps.specs.declared.rows.SpawnedRow.{SpawnedRow}
 use Rattle.peer_steps.specs.Steps.{row_packet, sent_to}
@@ -23,8 +22,3 @@ shown_to_each form s nodes up r = if is_open s r.place then map (λ b. sent_to f
 -- why an assignment to a node isn't made
 abbrev pub set_at_judged : ℤ → Live → List ℕ → Variant → Option Refusal
 set_at_judged id n prop value = first_of (when (not (int_eq n.auth id)) NotAuthority ∷ when (not (has_prop prop n.values)) NoProp ∷ when (not (fits value)) ValueTooLong ∷ [])
-
--- the nodes after an assignment, unless it is refused
-abbrev pub set_nodes : Option Refusal → List ℕ → List ℕ → Variant → List Live → List Live
-set_nodes (Some r) path prop value nodes = nodes
-set_nodes None path prop value nodes = assigned path prop value nodes

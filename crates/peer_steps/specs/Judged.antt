@@ -1,28 +1,22 @@
 -- Why an event is refused or a fault, by what is kept.
-use Rattle.std.specs.Prelude.{ℕ, ℤ, pos, Bool, not, ◌&&◌, ◌||◌, List, [], ◌∷◌, length, Option, is_none, nat_le, int_lt, if◌then◌else◌}
+use Rattle.std.specs.Prelude.{ℕ, ℤ, Bool, not, ◌&&◌, ◌||◌, List, [], ◌∷◌, Option, Some, None, is_none}
 use Rattle.std.specs.Ordering.{int_eq}
 use Rattle.gd_variant.specs.Words.{has_int, when, first_of}
 use Rattle.gd_variant.specs.declared.value.Variant.{Variant}
 use Rattle.scene_model.specs.declared.outcome.Refusal.{Refusal}
-use Rattle.scene_model.specs.declared.outcome.Refusal.TheVariants.{NoNode, NotAuthority, NoProp, ValueTooLong, NoPeer, BadPeer, PeersFull}
+use Rattle.scene_model.specs.declared.outcome.Refusal.TheVariants.{NoNode, NotAuthority, NoProp, ValueTooLong}
 use Rattle.scene_model.specs.declared.outcome.Fault.{Fault}
 use Rattle.scene_model.specs.declared.outcome.Fault.TheVariants as fault
-use Rattle.peer_model.specs.Heard.{Who, is_server, server}
+use Rattle.peer_model.specs.Heard.{Who, server}
 use Rattle.peer_model.specs.Updates.{Live, live_at}
 use Rattle.peer_model.specs.View.{fits}
-use Rattle.peer_model.specs.Refusals.{most_clients, owns, has_live_prop}
+use Rattle.peer_model.specs.Refusals.{owns, has_live_prop}
+use Rattle.headless_tree.specs.Nodes.{assigned}
+use Rattle.peer_steps.specs.Peers.{Peers}
 
--- a link of this peer, of one that was up before, or with a number that can't be
-abbrev pub is_bad_link : Who → List ℤ → ℤ → Bool
-is_bad_link who come b = int_eq b who.id || has_int b come || (if is_server who then int_lt b (pos 2) else not (int_eq b server))
-
--- why a link isn't taken up
-abbrev pub up_judged : Who → List ℤ → List ℤ → ℤ → Option Refusal
-up_judged who come up b = first_of (when (is_bad_link who come b) BadPeer ∷ when (is_server who && nat_le most_clients (length up)) PeersFull ∷ [])
-
--- why a link isn't taken down
-abbrev pub down_judged : List ℤ → ℤ → Option Refusal
-down_judged up b = when (not (has_int b up)) NoPeer
+-- whether neither of two peers is the server; each link has the server at one end
+abbrev pub lacks_server : ℤ → ℤ → Bool
+lacks_server a b = not (int_eq a server) && not (int_eq b server)
 
 -- why an assignment is refused
 abbrev pub set_judged : Who → List Live → List ℕ → List ℕ → Variant → Option Refusal
@@ -33,6 +27,11 @@ set_judged who nodes path prop value = first_of (
     ∷ when (not (fits value)) ValueTooLong
     ∷ [])
 
+-- the nodes after an assignment, unless it is refused
+abbrev pub set_nodes : Option Refusal → List ℕ → List ℕ → Variant → List Live → List Live
+set_nodes (Some r) path prop value nodes = nodes
+set_nodes None path prop value nodes = assigned path prop value nodes
+
 -- why no packet is taken from a link
-abbrev pub link_judged : Who → List ℤ → ℤ → Option Fault
-link_judged who up from = when (not (has_int from up) || (not (is_server who) && not (int_eq from server))) (fault.UnknownPeer from)
+abbrev pub link_judged : Peers → ℤ → Option Fault
+link_judged p from = when (not (has_int from p.up) || lacks_server p.me from) (fault.UnknownPeer from)

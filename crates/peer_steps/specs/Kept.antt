@@ -1,15 +1,24 @@
 -- What a peer keeps.
-use Rattle.std.specs.Prelude.{ℕ, ℤ, Bool, List}
+use Rattle.std.specs.Prelude.{ℤ, Bool, false, List}
+use Rattle.scene_model.specs.declared.scene.Scene.{Scene}
 use Rattle.peer_model.specs.Heard.{Who}
 use Rattle.peer_model.specs.Updates.{Live}
-use Rattle.peer_steps.specs.declared.rows.SpawnedRow.{SpawnedRow}
+use Rattle.headless_tree.specs.Nodes.{TreeOf, fixed_nodes}
+use Rattle.peer_steps.specs.Peers.{Peers, no_peers}
+use Rattle.peer_steps.specs.Track.{Track, no_rows}
 
--- what contracts see of a peer: its number and scene, whether it is spent, the peers that ever came up, those that are up, its nodes, the next number, and its rows
+-- what contracts see of a peer: its number and scene, whether it is spent, the other peers, its nodes, and its own rows
 pub record Kept : Type 0 where
   pub who : Who
   pub spent : Bool
-  pub come : List ℤ
-  pub up : List ℤ
+  pub peers : Peers
   pub nodes : List Live
-  pub next : ℕ
-  pub rows : List SpawnedRow
+  pub track : Track
+
+-- the tree of its nodes
+abbrev pub kept_tree : Kept → TreeOf
+kept_tree k = record { scene = k.who.scene; nodes = k.nodes }
+
+-- a new peer
+abbrev pub new_kept : ℤ → Scene → Kept
+new_kept id s = record { who = record { id = id; scene = s }; spent = false; peers = no_peers id; nodes = fixed_nodes s; track = no_rows }

@@ -4,9 +4,11 @@ pub mod Sound
 pub mod Spawns
 pub mod Sites
 pub mod Arrivals
+pub mod Peers
+pub mod Track
+pub mod Fits
 pub mod Kept
 pub mod Judged
 pub mod Steps
 pub mod Stands
-pub mod Peers
 pub mod Calls

@@ -1,6 +1,7 @@
 -- Why a spawn is refused, and why a received one is a fault.
 use Rattle.std.specs.Prelude.{ℕ, ◌+◌, ℤ, Bool, not, ◌&&◌, List, [], ◌∷◌, ◌++◌, filter, flat_map, find, length, Option, is_some, is_none, option_map, option_and_then, nat_lt, nat_le}
 use Rattle.gd_variant.specs.Words.{text_eq, some_is, when, first_of}
+use Rattle.scene_model.specs.declared.scene.Scene.{Scene}
 use Rattle.scene_model.specs.declared.scene.SpawnerDef.{SpawnerDef}
 use Rattle.scene_model.specs.declared.spawn.SpawnMsg.{SpawnMsg}
 use Rattle.scene_model.specs.declared.event.SpawnOp.{SpawnOp}
@@ -42,16 +43,16 @@ spawn_judged who nodes rows next o = first_of (
     ∷ flat_map (setting_refusals (props_in (scene_made who o))) o.sets ++ when (not (argument_fits o.arg)) ValueTooLong ∷ [])
 
 -- why a received spawn is a fault
-abbrev pub shown_judged : Who → List Live → ℤ → SpawnMsg → Option Fault
-shown_judged who nodes c m = first_of (
-    when (is_none (fixed_node_at who.scene m.spawner)) (fault.NoName m.spawner)
-    ∷ when (is_none (spawner_with who.scene m.spawner)) fault.NoSpawner
-    ∷ when (not (auth_is c (fixed_node_at who.scene m.spawner))) fault.NotAuthority
-    ∷ when (is_none (option_and_then (λ (d : SpawnerDef). scene_name_of d m.scene) (spawner_with who.scene m.spawner))) fault.NoScene
+abbrev pub shown_judged : Scene → List Live → ℤ → SpawnMsg → Option Fault
+shown_judged s nodes c m = first_of (
+    when (is_none (fixed_node_at s m.spawner)) (fault.NoName m.spawner)
+    ∷ when (is_none (spawner_with s m.spawner)) fault.NoSpawner
+    ∷ when (not (auth_is c (fixed_node_at s m.spawner))) fault.NotAuthority
+    ∷ when (is_none (option_and_then (λ (d : SpawnerDef). scene_name_of d m.scene) (spawner_with s m.spawner))) fault.NoScene
     ∷ option_map fault.IdRange (find bad_id (m.net ∷ m.syncs))
     ∷ option_map fault.KnownNet (first_known (known_ids (rows_under c nodes)) (m.net ∷ m.syncs))
     ∷ when (not (is_name m.name)) fault.BadName
-    ∷ when (is_some (live_at nodes (shown_path who.scene m))) fault.NameTaken
+    ∷ when (is_some (live_at nodes (shown_path s m))) fault.NameTaken
     ∷ when (nat_le most_rows (length (rows_under c nodes))) fault.NodesFull
-    ∷ when (wrong_spawn (syncs_at who.scene (shown_place who.scene m)) m) fault.WrongValues
+    ∷ when (wrong_spawn (syncs_at s (shown_place s m)) m) fault.WrongValues
     ∷ [])

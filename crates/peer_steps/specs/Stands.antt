@@ -20,11 +20,12 @@ pub record HasParts (k : Kept) (es : List Heard) : Type 0 where
   pub live : k.spent ≡ false
   pub valid : IsValidScene k.who.scene
   pub accepted : AllAccepted k.who es
-  pub come : k.come ≡ reverse (peers_come es)
-  pub up : k.up ≡ peers_up es
+  pub me : k.peers.me ≡ k.who.id
+  pub come : k.peers.come ≡ reverse (peers_come es)
+  pub up : k.peers.up ≡ peers_up es
   pub nodes : k.nodes ≡ tree_of k.who es
-  pub next : k.next ≡ next_number k.who es
-  pub rows : k.rows ≡ map (kept_row k.who) (own_rows k.who es)
+  pub next : k.track.next ≡ next_number k.who es
+  pub rows : k.track.rows ≡ map (kept_row k.who) (own_rows k.who es)
 
 -- a peer stands for a list of events where it has the parts of the accepted ones
 abbrev pub StandsFor : PacketForm → Kept → List Event → Type 0
