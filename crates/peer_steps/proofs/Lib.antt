@@ -18,3 +18,4 @@ pub mod Accepted
 pub mod Packets
 pub mod Whole
 pub mod Clauses
+pub mod Fitting
