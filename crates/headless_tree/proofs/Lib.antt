@@ -1,6 +1,7 @@
 pub mod Places
 pub mod Numbered
 pub mod Keeping
+pub mod Exact
 pub mod Order
 pub mod Search
 pub mod Changes

@@ -1,7 +1,8 @@
 -- The spawned nodes of an authority: they stand together, and the others stay as they were without them.
-use Rattle.std.proofs.Common.{◌≡◌, ℕ, suc, ◌+◌, Bool, true, false, cond, not, ◌&&◌, ◌||◌, List, [], ◌∷◌, ◌++◌, ℤ, refl, sym, ap, ap₂, ◌∙◌, map, filter, take, drop, nat_lt, arith}
+use Rattle.std.proofs.Common.{◌≡◌, ℕ, suc, ◌+◌, Bool, true, false, cond, not, ◌&&◌, ◌||◌, List, [], ◌∷◌, ◌++◌, ℤ, refl, sym, ap, ap₂, ◌∙◌, subst, length, map, filter, take, drop, nat_lt, arith}
 use Rattle.std.specs.Prelude.{int_lt}
-use Rattle.std.specs.List.{list_all, list_any, prefix_len, position_or_len, remove_range}
+use Rattle.std.specs.List.{list_all, list_any, prefix_len, remove_range}
+use Rattle.std.proofs.lemmas.Bool.{true≢false}
 use Rattle.std.specs.Ordering.{int_eq}
 use Rattle.std.proofs.lemmas.Int.{ints}
 use Rattle.std.proofs.lemmas.List.{map-append}
@@ -10,7 +11,7 @@ use Rattle.scene_model.specs.Nodes.{Live}
 use Rattle.headless_tree.specs.declared.node.NodeNow.{NodeNow}
 use Rattle.headless_tree.specs.Nodes.{live, is_at, is_spawned, is_row_of, without_rows}
 use Rattle.headless_tree.specs.Numbers.{Paths, path_under, numbers_of, has_its_path, is_numbered, has_paths_once, KeepsOtherAuthorities}
-use Rattle.headless_tree.specs.Order.{may_precede, are_in_order}
+use Rattle.headless_tree.specs.Order.{may_precede, are_in_order, is_ahead_of, is_ahead_of_later}
 use Rattle.headless_tree.proofs.Numbered.{both, and_true, neither, or_false, unnot}
 use Rattle.headless_tree.proofs.Order.{all_weaker}
 use Rattle.headless_tree.proofs.Changes.{map-take, map-drop}
@@ -94,89 +95,94 @@ numbered_filter auth old new others (n ∷ ns) h = step (is_row_of auth n) refl 
 
 -- rows of one authority stand together
 
--- whether a node is a spawned one of a later authority
-abbrev is_later : ℤ → Live → Bool
-is_later auth n = is_spawned n && int_lt auth n.auth
+-- the order of nodes, by truth values: what may precede a node ahead of an authority's rows stands ahead of them too
+ahead_by : (s t : Bool) (auth a b : ℤ) (k m : ℕ) → (not s || (t && (int_lt a b || (int_eq a b && nat_lt k m)))) ≡ true → (not t || int_lt b auth) ≡ true → (not s || int_lt a auth) ≡ true
+ahead_by false t auth a b k m h i = refl
+ahead_by true false auth a b k m h i = absurd (cc h)
+ahead_by true true auth a b k m h i = grind (arith, ints)
 
-behind_row : (s t : Bool) (auth a b : ℤ) (k m : ℕ) → (s && int_eq a auth) ≡ true → (not s || (t && (int_lt a b || (int_eq a b && nat_lt k m)))) ≡ true → (t && int_eq b auth) ≡ false → (t && int_lt auth b) ≡ true
-behind_row false t auth a b k m h i j = absurd (cc h)
-behind_row true false auth a b k m h i j = absurd (cc i)
-behind_row true true auth a b k m h i j = grind (arith, ints)
+ahead_of_later_by : (s t : Bool) (auth a b : ℤ) (k m : ℕ) → (not s || (t && (int_lt a b || (int_eq a b && nat_lt k m)))) ≡ true → (not t || not (int_lt auth b)) ≡ true → (not s || not (int_lt auth a)) ≡ true
+ahead_of_later_by false t auth a b k m h i = refl
+ahead_of_later_by true false auth a b k m h i = absurd (cc h)
+ahead_of_later_by true true auth a b k m h i = grind (arith, ints)
 
-behind_later : (s t : Bool) (auth a b : ℤ) (k m : ℕ) → (s && int_lt auth a) ≡ true → (not s || (t && (int_lt a b || (int_eq a b && nat_lt k m)))) ≡ true → (t && int_lt auth b) ≡ true
-behind_later false t auth a b k m h i = absurd (cc h)
-behind_later true false auth a b k m h i = absurd (cc i)
-behind_later true true auth a b k m h i = grind (arith, ints)
+pub ahead_too : (auth : ℤ) (a b : Live) → may_precede a b ≡ true → is_ahead_of auth b ≡ true → is_ahead_of auth a ≡ true
+ahead_too auth a b = ahead_by (is_spawned a) (is_spawned b) auth a.auth b.auth a.num b.num
 
-later_is_no_row : (s : Bool) (auth a : ℤ) → (s && int_lt auth a) ≡ true → (s && int_eq a auth) ≡ false
-later_is_no_row false auth a h = refl
-later_is_no_row true auth a h = grind (arith, ints)
+pub ahead_of_later_too : (auth : ℤ) (a b : Live) → may_precede a b ≡ true → is_ahead_of_later auth b ≡ true → is_ahead_of_later auth a ≡ true
+ahead_of_later_too auth a b = ahead_of_later_by (is_spawned a) (is_spawned b) auth a.auth b.auth a.num b.num
 
-no_rows : (auth : ℤ) (ns : List Live) → list_all (is_later auth) ns ≡ true → without_rows auth ns ≡ ns
-no_rows auth [] h = refl
-no_rows auth (n ∷ ns) h =
-    let parts = both (is_later auth n) (list_all (is_later auth) ns) h in
-    ap (λ b. cond (not b) (n ∷ without_rows auth ns) (without_rows auth ns)) (later_is_no_row (is_spawned n) auth n.auth parts.0)
-    ∙ ap (λ (ms : List Live). n ∷ ms) (no_rows auth ns parts.1)
+ahead_of_both : (s : Bool) (auth a : ℤ) → (not s || int_lt a auth) ≡ true → (not s || not (int_lt auth a)) ≡ true
+ahead_of_both false auth a h = refl
+ahead_of_both true auth a h = grind (arith, ints)
+
+-- a row stands ahead of those of later authorities, and of none else
+row_by : (s : Bool) (auth a : ℤ) → (s && int_eq a auth) ≡ ((not s || not (int_lt auth a)) && not (not s || int_lt a auth))
+row_by false auth a = refl
+row_by true auth a = grind (arith, ints)
+
+-- where the first fails and then all do, none passes first
+first_none : {X : Type 0} (p : X → Bool) (xs : List X) → list_all (λ x. not (p x)) xs ≡ true → prefix_len p xs ≡ 0
+first_none p [] h = refl
+first_none p (x ∷ xs) h = ap (λ b. cond b (1 + prefix_len p xs) 0) (unnot (p x) (both (not (p x)) (list_all (λ y. not (p y)) xs) h).0)
+
+not_false : (a b : Bool) → (b ≡ true → a ≡ true) → a ≡ false → not b ≡ true
+not_false a true h e = absurd (true≢false (sym (h refl) ∙ e))
+not_false a false h e = refl
+
+none_then : (p : Live → Bool) → ((a b : Live) → may_precede a b ≡ true → p b ≡ true → p a ≡ true) → (n : Live) (ns : List Live) → p n ≡ false → list_all (may_precede n) ns ≡ true → prefix_len p ns ≡ 0
+none_then p first n ns e h = first_none p ns (all_weaker (may_precede n) (λ m. not (p m)) (λ m k. not_false (p n) (p m) (first n m k) e) ns h)
 
 one_more : (n : ℕ) → 1 + n ≡ suc n
 one_more n = omega arith
 
-none_more : (n : ℕ) → 0 + (1 + n) ≡ suc n
-none_more n = omega arith
+-- the rows stand between two places: what is left without them, and how many they are
+pub record AreBetween (auth : ℤ) (ns : List Live) (start end : ℕ) : Type 0 where
+  pub left : without_rows auth ns ≡ remove_range ns start end
+  pub many : start + length (filter (is_row_of auth) ns) ≡ end
 
--- behind a row, the others are those behind the last row
-rows_first : (auth : ℤ) (n : Live) (ns : List Live) → is_row_of auth n ≡ true → list_all (may_precede n) ns ≡ true → are_in_order ns ≡ true → without_rows auth ns ≡ drop (prefix_len (is_row_of auth) ns) ns
-rows_first auth n [] row before order = refl
-rows_first auth n (m ∷ ms) row before order = step (is_row_of auth m) refl (λ e. rows_first auth m ms e parts.0 parts.1)
-  where
-    front : (may_precede n m ≡ true) × (list_all (may_precede n) ms ≡ true)
-    front = both (may_precede n m) (list_all (may_precede n) ms) before
-
-    parts : (list_all (may_precede m) ms ≡ true) × (are_in_order ms ≡ true)
-    parts = both (list_all (may_precede m) ms) (are_in_order ms) order
-
-    step : (b : Bool) → is_row_of auth m ≡ b → (is_row_of auth m ≡ true → without_rows auth ms ≡ drop (prefix_len (is_row_of auth) ms) ms) → cond (not b) (m ∷ without_rows auth ms) (without_rows auth ms) ≡ drop (cond b (1 + prefix_len (is_row_of auth) ms) 0) (m ∷ ms)
-    step true e more = more e ∙ sym (ap (λ k. drop k (m ∷ ms)) (one_more (prefix_len (is_row_of auth) ms)))
-    step false e more =
-        let later = behind_row (is_spawned n) (is_spawned m) auth n.auth m.auth n.num m.num row front.0 e in
-        ap (λ (zs : List Live). m ∷ zs) (no_rows auth ms (all_weaker (may_precede m) (is_later auth) (λ z k. behind_later (is_spawned m) (is_spawned z) auth m.auth z.auth m.num z.num later k) ms parts.0))
-
--- the list without its rows, which begin at a place
-abbrev from_place : ℤ → List Live → ℕ → List Live
-from_place auth ns at = remove_range ns at (at + prefix_len (is_row_of auth) (drop at ns))
-
-rows_together : (auth : ℤ) (ns : List Live) → are_in_order ns ≡ true → without_rows auth ns ≡ from_place auth ns (position_or_len (is_row_of auth) ns)
-rows_together auth [] order = refl
-rows_together auth (n ∷ ns) order = step (is_row_of auth n) refl (rows_together auth ns parts.1)
+rows_together : (auth : ℤ) (ns : List Live) → are_in_order ns ≡ true → AreBetween auth ns (prefix_len (is_ahead_of auth) ns) (prefix_len (is_ahead_of_later auth) ns)
+rows_together auth [] order = record { left = refl; many = refl }
+rows_together auth (n ∷ ns) order = step (row_by (is_spawned n) auth n.auth) (rows_together auth ns parts.1)
   where
     parts : (list_all (may_precede n) ns ≡ true) × (are_in_order ns ≡ true)
     parts = both (list_all (may_precede n) ns) (are_in_order ns) order
 
-    first : ℕ
-    first = position_or_len (is_row_of auth) ns
+    start : ℕ
+    start = prefix_len (is_ahead_of auth) ns
 
-    count : ℕ
-    count = prefix_len (is_row_of auth) (drop first ns)
+    end : ℕ
+    end = prefix_len (is_ahead_of_later auth) ns
 
-    step : (b : Bool) → is_row_of auth n ≡ b → without_rows auth ns ≡ from_place auth ns first → cond (not b) (n ∷ without_rows auth ns) (without_rows auth ns) ≡ from_place auth (n ∷ ns) (cond (not b) (1 + first) 0)
-    step true e more =
-        rows_first auth n ns e parts.0 parts.1
-        ∙ sym (ap (λ b. drop (0 + cond b (1 + prefix_len (is_row_of auth) ns) 0) (n ∷ ns)) e ∙ ap (λ k. drop k (n ∷ ns)) (none_more (prefix_len (is_row_of auth) ns)))
-    step false e more =
-        ap (λ (zs : List Live). n ∷ zs) more
-        ∙ sym (ap (from_place auth (n ∷ ns)) (one_more first) ∙ ap (λ k. n ∷ take first ns ++ drop k (n ∷ ns)) (next first count))
-      where
-        next : (i k : ℕ) → suc i + k ≡ suc (i + k)
-        next i k = omega arith
+    rows : List Live
+    rows = filter (is_row_of auth) ns
+
+    -- by how the first node stands, and whether it is a row
+    Goal : Bool → Bool → Bool → Type 0
+    Goal a l r = (cond (not r) (n ∷ without_rows auth ns) (without_rows auth ns) ≡ remove_range (n ∷ ns) (cond a (1 + start) 0) (cond l (1 + end) 0)) × (cond a (1 + start) 0 + length (cond r (n ∷ rows) rows) ≡ cond l (1 + end) 0)
+
+    by : (a l : Bool) → is_ahead_of auth n ≡ a → is_ahead_of_later auth n ≡ l → AreBetween auth ns start end → Goal a l (l && not a)
+    by true true e f more = (ap (λ (ms : List Live). n ∷ ms) more.left ∙ sym (ap₂ (remove_range (n ∷ ns)) (one_more start) (one_more end)), omega (arith, more.many))
+    by true false e f more = absurd (true≢false (sym (ahead_of_both (is_spawned n) auth n.auth e) ∙ f))
+    by false true e f more =
+        let none = none_then (is_ahead_of auth) (ahead_too auth) n ns e parts.0 in
+        (more.left ∙ ap (λ k. remove_range ns k end) none ∙ sym (ap (remove_range (n ∷ ns) 0) (one_more end)), omega (arith, more.many, none))
+    by false false e f more =
+        let none = none_then (is_ahead_of auth) (ahead_too auth) n ns e parts.0 in
+        let all = none_then (is_ahead_of_later auth) (ahead_of_later_too auth) n ns f parts.0 in
+        (ap (λ (ms : List Live). n ∷ ms) (more.left ∙ ap₂ (remove_range ns) none all), omega (arith, more.many, none, all))
+
+    step : is_row_of auth n ≡ (is_ahead_of_later auth n && not (is_ahead_of auth n)) → AreBetween auth ns start end → AreBetween auth (n ∷ ns) (cond (is_ahead_of auth n) (1 + start) 0) (cond (is_ahead_of_later auth n) (1 + end) 0)
+    step row more =
+        let goal = subst (λ r. Goal (is_ahead_of auth n) (is_ahead_of_later auth n) r) (sym row) (by (is_ahead_of auth n) (is_ahead_of_later auth n) refl refl more) in
+        record { left = goal.0; many = goal.1 }
 
 -- the same of the code's nodes
-pub rows_stand : (auth : ℤ) (nodes part : List NodeNow) (start count : ℕ) → are_in_order (map live nodes) ≡ true → start ≡ position_or_len (λ (n : NodeNow). is_row_of auth (live n)) nodes → part ≡ drop start nodes → count ≡ prefix_len (λ (n : NodeNow). is_row_of auth (live n)) part
-    → without_rows auth (map live nodes) ≡ remove_range (map live nodes) start (start + count)
-rows_stand auth nodes part start count order first rest rows =
-    rows_together auth (map live nodes) order
-    ∙ ap (from_place auth (map live nodes)) (sym (first ∙ prefix-map live (λ (n : Live). not (is_row_of auth n)) nodes))
-    ∙ ap (λ k. remove_range (map live nodes) start (start + k)) (sym (rows ∙ ap (prefix_len (λ (n : NodeNow). is_row_of auth (live n))) rest ∙ prefix-map live (is_row_of auth) (drop start nodes) ∙ ap (prefix_len (is_row_of auth)) (map-drop live start nodes)))
+pub rows_stand : (auth : ℤ) (nodes : List NodeNow) (start end : ℕ) → are_in_order (map live nodes) ≡ true → start ≡ prefix_len (λ (n : NodeNow). is_ahead_of auth (live n)) nodes → end ≡ prefix_len (λ (n : NodeNow). is_ahead_of_later auth (live n)) nodes → AreBetween auth (map live nodes) start end
+rows_stand auth nodes start end order first last =
+    subst (AreBetween auth (map live nodes) start) (sym (last ∙ prefix-map live (is_ahead_of_later auth) nodes))
+    (subst (λ k. AreBetween auth (map live nodes) k (prefix_len (is_ahead_of_later auth) (map live nodes))) (sym (first ∙ prefix-map live (is_ahead_of auth) nodes))
+    (rows_together auth (map live nodes) order))
 
 map-remove_range : {X Y : Type 0} (f : X → Y) (xs : List X) (i j : ℕ) → map f (remove_range xs i j) ≡ remove_range (map f xs) i j
 map-remove_range f xs i j = map-append f (take i xs) (drop j xs) ∙ ap₂ (λ ys zs. ys ++ zs) (map-take f i xs) (map-drop f j xs)

@@ -15,7 +15,8 @@ each_passes f p [] i d low h = absurd (omega (arith, low))
 each_passes f p (x ∷ xs) zero d low h = (both (p (f x)) (list_all p (map f xs)) h).0
 each_passes f p (x ∷ xs) (suc i) d low h = each_passes f p xs i d (omega (arith, low)) (both (p (f x)) (list_all p (map f xs)) h).1
 
-before_too : (a b x : Live) → may_precede a b ≡ true → row_before b x ≡ true → row_before a x ≡ true
+-- what may precede a node that stands before another, stands before that one too
+pub before_too : (a b x : Live) → may_precede a b ≡ true → row_before b x ≡ true → row_before a x ≡ true
 before_too a b x h k = by (is_spawned a) (is_spawned b) h k
   where
     by : (s t : Bool) → (not s || (t && is_lower a b)) ≡ true → (not t || is_lower b x) ≡ true → (not s || is_lower a x) ≡ true
@@ -23,13 +24,13 @@ before_too a b x h k = by (is_spawned a) (is_spawned b) h k
     by true false h k = absurd (cc h)
     by true true h k = lower_then a.auth b.auth x.auth a.num b.num x.num h k
 
--- what stands before a node, has before it only what stands before that node too
-pub parted : (x : Live) (ns : List NodeNow) → are_in_order (map live ns) ≡ true → IsPartitionedBy (λ (m : NodeNow). row_before (live m) x) ns
-parted x [] order i j d behind low h = absurd (omega (arith, low))
-parted x (n ∷ ns) order zero zero d behind low h = h
-parted x (n ∷ ns) order zero (suc j) d behind low h = before_too (live n) (live (get_or ns j d)) x (each_passes live (may_precede (live n)) ns j d (omega (arith, low)) (both (list_all (may_precede (live n)) (map live ns)) (are_in_order (map live ns)) order).0) h
-parted x (n ∷ ns) order (suc i) zero d behind low h = absurd (omega (arith, behind))
-parted x (n ∷ ns) order (suc i) (suc j) d behind low h = parted x ns (both (list_all (may_precede (live n)) (map live ns)) (are_in_order (map live ns)) order).1 i j d (omega (arith, behind)) (omega (arith, low)) h
+-- among nodes in order, those that pass stand first, where what may precede one that passes does too
+pub parted : (p : Live → Bool) → ((a b : Live) → may_precede a b ≡ true → p b ≡ true → p a ≡ true) → (ns : List NodeNow) → are_in_order (map live ns) ≡ true → IsPartitionedBy (λ (m : NodeNow). p (live m)) ns
+parted p first [] order i j d behind low h = absurd (omega (arith, low))
+parted p first (n ∷ ns) order zero zero d behind low h = h
+parted p first (n ∷ ns) order zero (suc j) d behind low h = first (live n) (live (get_or ns j d)) (each_passes live (may_precede (live n)) ns j d (omega (arith, low)) (both (list_all (may_precede (live n)) (map live ns)) (are_in_order (map live ns)) order).0) h
+parted p first (n ∷ ns) order (suc i) zero d behind low h = absurd (omega (arith, behind))
+parted p first (n ∷ ns) order (suc i) (suc j) d behind low h = parted p first ns (both (list_all (may_precede (live n)) (map live ns)) (are_in_order (map live ns)) order).1 i j d (omega (arith, behind)) (omega (arith, low)) h
 
 -- where a list is parted is how many of its first pass
 pub point_is_prefix : {X : Type 0} (p : X → Bool) (xs : List X) (i : ℕ) → i ≤ length xs → IsPartitionPoint (λ x. p x ≡ true) (λ x. p x ≡ false) xs i → i ≡ prefix_len p xs

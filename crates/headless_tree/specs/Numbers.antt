@@ -43,6 +43,10 @@ has_its_path ps n = list_all (λ id. some_is (text_eq n.path) (path_under ps n.a
 abbrev pub is_numbered : Paths → List Live → Bool
 is_numbered ps nodes = list_all (has_its_path ps) nodes
 
+-- under a number that belongs to no node, no path stands
+abbrev pub HasNoOthers : Paths → List Live → Type 0
+HasNoOthers ps nodes = (auth : ℤ) (id : ℕ) → is_new auth nodes id ≡ true → path_under ps auth id ≡ None
+
 -- whether no two nodes have one path
 abbrev pub has_paths_once : List Live → Bool
 has_paths_once [] = true

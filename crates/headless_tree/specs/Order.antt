@@ -1,5 +1,5 @@
 -- The order of nodes: fixed ones first, then spawned ones by authority and number.
-use Rattle.std.specs.Prelude.{Bool, true, not, ◌&&◌, ◌||◌, List, [], ◌∷◌, int_lt, nat_lt}
+use Rattle.std.specs.Prelude.{ℤ, Bool, true, not, ◌&&◌, ◌||◌, List, [], ◌∷◌, int_lt, nat_lt}
 use Rattle.std.specs.List.{list_all}
 use Rattle.std.specs.Ordering.{int_eq}
 use Rattle.scene_model.specs.Nodes.{Live}
@@ -17,3 +17,11 @@ may_precede a b = not (is_spawned a) || (is_spawned b && is_lower a b)
 abbrev pub are_in_order : List Live → Bool
 are_in_order [] = true
 are_in_order (n ∷ ns) = list_all (may_precede n) ns && are_in_order ns
+
+-- whether a node stands ahead of the spawned ones of an authority
+abbrev pub is_ahead_of : ℤ → Live → Bool
+is_ahead_of auth n = not (is_spawned n) || int_lt n.auth auth
+
+-- whether a node stands ahead of the spawned ones of later authorities
+abbrev pub is_ahead_of_later : ℤ → Live → Bool
+is_ahead_of_later auth n = not (is_spawned n) || not (int_lt auth n.auth)

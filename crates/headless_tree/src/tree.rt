@@ -1,6 +1,6 @@
 //! The tree.
-ghost use Rattle.std.specs.Prelude.{◌≡◌, ◌<◌, ◌≤◌, IfOk, IfSome, MatchResult, Some, None, true, length, map, position, option_map, slice_get, remove, is_some};
-ghost use Rattle.std.specs.List.{list_all, prefix_len, position_or_len, remove_range};
+ghost use Rattle.std.specs.Prelude.{◌≡◌, ◌+◌, ◌<◌, ◌≤◌, filter, IfOk, IfSome, MatchResult, Some, None, true, length, map, position, option_map, slice_get, remove, is_some};
+ghost use Rattle.std.specs.List.{list_all, prefix_len, remove_range};
 ghost use Rattle.std.specs.Option.{option_copied};
 ghost use Rattle.gd_variant.specs.Words.{text_eq, some_is};
 ghost use Rattle.scene_model.specs.declared.scene.Node.{Node as SceneNode};
@@ -9,7 +9,7 @@ ghost use Rattle.scene_model.specs.Valid.{IsValidScene};
 ghost use Rattle.scene_model.specs.Nodes.{Live, live_at, fixed_live, row_of as row_seen};
 ghost use Rattle.headless_tree.specs.declared.node.NodeNow.{NodeNow as NodeOf};
 ghost use Rattle.headless_tree.specs.Numbers.{has_number, is_new as is_new_in, are_new as are_new_in};
-ghost use Rattle.headless_tree.specs.Order.{are_in_order};
+ghost use Rattle.headless_tree.specs.Order.{are_in_order, is_ahead_of, is_ahead_of_later};
 ghost use Rattle.headless_tree.specs.Nodes.{live, KeepsFixed, HasFixed, is_at, value_at, fixed_nodes, assign_no, assigned, assign_at_no, assigned_at, is_row_of as is_row, is_spawned as is_spawned_in, has_spawned as has_spawned_in, without_spawned, without_rows, Assigns, FindsSpot};
 
 mod making;
@@ -45,7 +45,7 @@ impl Model for Tree {
     ghost use Rattle.scene_model.specs.declared.scene.SceneDef.{SceneDef as SceneDefOf};
     ghost use Rattle.headless_tree.specs.declared.node.NodeNow.{NodeNow as NodeOf};
     ghost use Rattle.headless_tree.specs.Nodes.{TreeOf, KeepsFixed, live};
-    ghost use Rattle.headless_tree.specs.Numbers.{has_paths_once, is_numbered};
+    ghost use Rattle.headless_tree.specs.Numbers.{has_paths_once, is_numbered, HasNoOthers};
     ghost use Rattle.headless_tree.specs.Order.{are_in_order};
 
     ghost Value = { TreeOf };
@@ -54,7 +54,7 @@ impl Model for Tree {
 
     ghost view = { λ t. record { scene = t.scene; nodes = map live t.nodes.items } };
 
-    ghost invariant = { λ t. (map string_bytes t.paths.keys ≡ map (λ (n : NodeOf). n.path) t.nodes.items) × (has_paths_once (map live t.nodes.items) ≡ true) × (is_numbered t.numbers (map live t.nodes.items) ≡ true) × (are_in_order (map live t.nodes.items) ≡ true) × KeepsFixed t.scene (map live t.nodes.items) × (map string_bytes t.scenes.keys ≡ map (λ (d : SceneDefOf). d.name) t.scene.scenes) };
+    ghost invariant = { λ t. (map string_bytes t.paths.keys ≡ map (λ (n : NodeOf). n.path) t.nodes.items) × (has_paths_once (map live t.nodes.items) ≡ true) × (is_numbered t.numbers (map live t.nodes.items) ≡ true) × (are_in_order (map live t.nodes.items) ≡ true) × KeepsFixed t.scene (map live t.nodes.items) × (map string_bytes t.scenes.keys ≡ map (λ (d : SceneDefOf). d.name) t.scene.scenes) × HasNoOthers t.numbers (map live t.nodes.items) };
 }
 
 impl Tree {
@@ -97,10 +97,19 @@ impl Tree {
         }
     }
 
-    /// The node at a path. One stands at the path of each node of the scene.
+    /// What holds of every tree: its nodes stand in order, and those of the scene stay, so that one
+    /// stands at the path of each of them.
+    pub fn holds(&self)
+        ensures order { are_in_order self.now.nodes ≡ true }
+        ensures fixed { KeepsFixed self.now.scene self.now.nodes }
+        ensures there { HasFixed self.now }
+    {
+        let _nodes = &self.nodes;
+    }
+
+    /// The node at a path.
     pub fn node_at(&self, path: &str) -> Option<&NodeNow>
-        ensures node { option_map live (option_copied result) ≡ live_at self.now.nodes path.now }
-        ensures fixed { HasFixed self.now }
+        ensures { option_map live (option_copied result) ≡ live_at self.now.nodes path.now }
     {
         match self.place_of(path) {
             Some(place) => item_at(self.nodes.as_slice(), place),
@@ -179,9 +188,7 @@ impl Tree {
     /// Every node, the fixed ones in the order of the scene, then the spawned ones by authority and
     /// number.
     pub fn rows(&self, alloc: Global) -> Result<RowList, OutOfMemory>
-        ensures rows { IfOk result (λ rows. rows ≡ map row_seen self.now.nodes) }
-        ensures order { are_in_order self.now.nodes ≡ true }
-        ensures fixed { KeepsFixed self.now.scene self.now.nodes }
+        ensures { IfOk result (λ rows. rows ≡ map row_seen self.now.nodes) }
     {
         let mut rows = Items::new(alloc);
         for node in self.nodes.as_slice() {
@@ -295,6 +302,21 @@ impl Tree {
         self.numbers.forget_under(auth);
     }
 
+    fn count_rows(&self, auth: &i32) -> usize
+        ensures { result ≡ length (filter (is_row auth.now) self.now.nodes) }
+    {
+        let (start, end) = rows_under(self.nodes.as_slice(), auth);
+        end - start
+    }
+
+    /// How many spawned nodes of an authority there are. They stand together, so the count takes two
+    /// searches and no walk (this project's own call).
+    pub fn count_under(&self, auth: i32) -> usize
+        ensures { result ≡ length (filter (is_row auth) self.now.nodes) }
+    {
+        self.count_rows(&auth)
+    }
+
     /// Removes every spawned node of an authority.
     pub fn remove_under(&mut self, auth: i32)
         ensures { self.new ≡ record self.old { nodes = without_rows auth self.old.nodes } }
@@ -308,31 +330,27 @@ fn rows_under(nodes: &[NodeNow], auth: &i32) -> (usize, usize)
     requires order { are_in_order (map live nodes.now) ≡ true }
     ensures within { (result.0 ≤ result.1) × (result.1 ≤ length nodes.now) }
     ensures rows { without_rows auth.now (map live nodes.now) ≡ remove_range (map live nodes.now) result.0 result.1 }
+    ensures count { result.0 + length (filter (is_row auth.now) (map live nodes.now)) ≡ result.1 }
 {
-    let start = count_others(nodes, auth);
-    (start, start + count_rows(&nodes[start..], auth))
+    (count_ahead(nodes, auth), count_ahead_of_later(nodes, auth))
 }
 
-/// How many nodes stand before the first spawned one of an authority.
-fn count_others(nodes: &[NodeNow], auth: &i32) -> usize
-    ensures count { result ≡ position_or_len (λ (n : NodeOf). is_row auth.now (live n)) nodes.now }
+/// How many nodes stand ahead of the spawned ones of an authority, by a binary search.
+fn count_ahead(nodes: &[NodeNow], auth: &i32) -> usize
+    requires order { are_in_order (map live nodes.now) ≡ true }
+    ensures count { result ≡ prefix_len (λ (n : NodeOf). is_ahead_of auth.now (live n)) nodes.now }
     ensures within { result ≤ length nodes.now }
 {
-    nodes
-        .iter()
-        .take_while(|node| !is_row_of(node, auth))
-        .count()
+    nodes.partition_point(|node| is_ahead(node, auth))
 }
 
-/// How many of the first nodes are spawned ones of an authority.
-fn count_rows(nodes: &[NodeNow], auth: &i32) -> usize
-    ensures count { result ≡ prefix_len (λ (n : NodeOf). is_row auth.now (live n)) nodes.now }
+/// How many nodes stand ahead of the spawned ones of later authorities, by a binary search.
+fn count_ahead_of_later(nodes: &[NodeNow], auth: &i32) -> usize
+    requires order { are_in_order (map live nodes.now) ≡ true }
+    ensures count { result ≡ prefix_len (λ (n : NodeOf). is_ahead_of_later auth.now (live n)) nodes.now }
     ensures within { result ≤ length nodes.now }
 {
-    nodes
-        .iter()
-        .take_while(|node| is_row_of(node, auth))
-        .count()
+    nodes.partition_point(|node| is_ahead_of_others(node, auth))
 }
 
 fn row_of(alloc: Global, node: &NodeNow) -> Result<Row, OutOfMemory>
@@ -362,4 +380,16 @@ fn is_row_of(node: &NodeNow, auth: &i32) -> bool
     ensures { result ≡ is_row auth.now (live node.now) }
 {
     is_spawned(node) && node.auth == *auth
+}
+
+fn is_ahead(node: &NodeNow, auth: &i32) -> bool
+    ensures { result ≡ is_ahead_of auth.now (live node.now) }
+{
+    !is_spawned(node) || node.auth < *auth
+}
+
+fn is_ahead_of_others(node: &NodeNow, auth: &i32) -> bool
+    ensures { result ≡ is_ahead_of_later auth.now (live node.now) }
+{
+    !is_spawned(node) || !(*auth < node.auth)
 }

@@ -12,7 +12,7 @@ ghost use Rattle.scene_model.specs.Nodes.{live_at, fixed_live, props_in};
 ghost use Rattle.headless_tree.specs.declared.node.NodeNow.{NodeNow as NodeOf};
 ghost use Rattle.headless_tree.specs.Numbers.{are_free, are_new};
 ghost use Rattle.headless_tree.specs.Order.{are_in_order};
-ghost use Rattle.headless_tree.specs.Nodes.{live, fixed_nodes, is_spawned, row_before, spawned_node, insert_no, HasFixed, Inserts, NamesPath};
+ghost use Rattle.headless_tree.specs.Nodes.{live, fixed_nodes, is_spawned, row_before, spawned_node, insert_no, Inserts, NamesPath};
 
 use super::Tree;
 use super::paths::put_text;
@@ -95,8 +95,7 @@ impl Tree {
     fn new_path(&self, alloc: Global, under: &str, name: &str) -> Result<Text, TreeNo>
         requires under { HasNoZero under.now }
         requires name { HasNoZero name.now }
-        ensures path { NamesPath under.now name.now (insert_no self.now.nodes under.now name.now) result }
-        ensures fixed { HasFixed self.now }
+        ensures { NamesPath under.now name.now (insert_no self.now.nodes under.now name.now) result }
     {
         match self.node_at(under) {
             Some(_) => match joined(alloc, under, name) {
@@ -133,12 +132,22 @@ impl Tree {
         ensures err { OnErr result (self.new ≡ self.old) }
     {
         self.nodes.reserve(1)?;
-        self.numbers.note(alloc, &node)?;
         let at = count_before(self.nodes.as_slice(), &node);
-        put_text(alloc, &mut self.paths, at, &node.path)?;
-        match self.nodes.insert(at, node) {
-            Ok(()) => Ok(()),
-            Err(_) => unreachable!(),
+        match self.numbers.note(alloc, &node) {
+            Ok(()) => match put_text(alloc, &mut self.paths, at, &node.path) {
+                Ok(()) => match self.nodes.insert(at, node) {
+                    Ok(()) => Ok(()),
+                    Err(_) => unreachable!(),
+                },
+                Err(no) => {
+                    self.numbers.forget(&node);
+                    Err(no)
+                }
+            },
+            Err(no) => {
+                self.numbers.forget(&node);
+                Err(no)
+            }
         }
     }
 
@@ -158,9 +167,7 @@ impl Tree {
         requires name { HasNoZero name.now }
         requires scene { scene < length self.old.scene.scenes }
         requires numbers { are_new auth num ids.now self.old.nodes ≡ true }
-        ensures added { Inserts self.old self.new under.now name.now (spawned_node self.old.scene (joined_of under.now name.now) auth num ids.now scene) result }
-        // a node of the scene is always there to be a parent
-        ensures fixed { HasFixed self.old }
+        ensures { Inserts self.old self.new under.now name.now (spawned_node self.old.scene (joined_of under.now name.now) auth num ids.now scene) result }
     {
         match self.new_path(alloc, under, name) {
             Ok(path) => match self.copies(alloc, ids, scene) {

@@ -1,11 +1,15 @@
-use Rattle.std.proofs.Common.{◌-◌, length, take, drop, arith}
-use Rattle.std.proofs.lemmas.List.{length-drop, take_all}
+use Rattle.std.proofs.Common.{arith}
 use Rattle.headless_tree.proofs.Rows.{rows_stand}
 use Rattle.headless_tree.proofs.tree.rows_under.Goals as goal
 
+pub returns-clause-within : goal.returns-clause-within
+returns-clause-within c =
+    let rows = rows_stand c.args.auth.now c.args.nodes.now c.count_ahead.result c.count_ahead_of_later.result c.requires.order c.count_ahead.ensures.count c.count_ahead_of_later.ensures.count in
+    let many = rows.many in
+    (omega (arith, many), c.count_ahead_of_later.ensures.within)
+
 pub returns-clause-rows : goal.returns-clause-rows
-returns-clause-rows c =
-    let start = c.count_others-start.result in
-    let nodes = c.args.nodes.now in
-    let count = length-drop start nodes in
-    rows_stand c.args.auth.now nodes (take (length nodes - start) (drop start nodes)) start c.count_rows.result c.requires.order c.count_others-start.ensures.count (take_all (length nodes - start) (drop start nodes) (omega (arith, count))) c.count_rows.ensures.count
+returns-clause-rows c = (rows_stand c.args.auth.now c.args.nodes.now c.count_ahead.result c.count_ahead_of_later.result c.requires.order c.count_ahead.ensures.count c.count_ahead_of_later.ensures.count).left
+
+pub returns-clause-count : goal.returns-clause-count
+returns-clause-count c = (rows_stand c.args.auth.now c.args.nodes.now c.count_ahead.result c.count_ahead_of_later.result c.requires.order c.count_ahead.ensures.count c.count_ahead_of_later.ensures.count).many

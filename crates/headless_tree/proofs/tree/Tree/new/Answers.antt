@@ -6,6 +6,7 @@ use Rattle.scene_model.specs.declared.scene.SceneDef.{SceneDef}
 use Rattle.headless_tree.proofs.Made.{made_fresh, made_more, made_all, made_numbered, made_in_order}
 use Rattle.headless_tree.specs.Nodes.{live}
 use Rattle.headless_tree.proofs.Fixed.{keeps_new}
+use Rattle.headless_tree.proofs.Exact.{only_new}
 use Rattle.headless_tree.proofs.tree.Tree.new.Goals as goal
 
 pub put_text-requires-clause-fresh : goal.put_text-requires-clause-fresh
@@ -30,4 +31,5 @@ invariant_of-result c =
       made_in_order string_bytes c.args.scene.now c.loop-at.at c.loop-at.nodes.items c.loop-at.paths.keys c.loop-at.invariant,
       keeps_new c.args.scene.now c.in_ok-scene.scene (map live c.loop-at.nodes.items) c.in_ok-scene.ensures all,
       c.in_ok-scenes.ensures ∙ ap (λ (s : Scene). map (λ (d : SceneDef). d.name) s.scenes) (sym c.in_ok-scene.ensures),
+      only_new c.new-numbers.result (map live c.loop-at.nodes.items) c.new-numbers.ensures,
     )

@@ -2,10 +2,11 @@ use Rattle.std.proofs.Common.{List, sym, ap, subst, ◌∙◌, map, not}
 use Rattle.std.specs.String.{string_bytes}
 use Rattle.scene_model.specs.Nodes.{Live}
 use Rattle.headless_tree.specs.Nodes.{TreeOf, KeepsFixed, live, is_row_of, without_rows}
-use Rattle.headless_tree.specs.Numbers.{has_paths_once, is_numbered}
+use Rattle.headless_tree.specs.Numbers.{has_paths_once, is_numbered, HasNoOthers}
 use Rattle.headless_tree.specs.Order.{are_in_order}
 use Rattle.headless_tree.proofs.Rows.{rows_cut, paths_cut, once_filter, numbered_filter, order_filter}
 use Rattle.headless_tree.proofs.Fixed.{keeps_others}
+use Rattle.headless_tree.proofs.Exact.{only_others}
 use Rattle.headless_tree.proofs.tree.Tree.remove_rows.Goals as goal
 
 pub invariant_of-self : goal.invariant_of-self
@@ -22,6 +23,7 @@ invariant_of-self c =
       ap are_in_order left ∙ order_filter stays all c.self.invariant.3,
       subst (KeepsFixed c.self.inside.scene) (sym left) (keeps_others c.self.inside.scene c.args.auth.now all c.self.invariant.4),
       c.self.invariant.5,
+      subst (HasNoOthers c.forget_under.new.self) (sym left) (only_others c.args.auth.now all c.self.inside.numbers c.forget_under.new.self c.forget_under.ensures.gone c.forget_under.ensures.others c.self.invariant.6),
     )
 
 pub returns : goal.returns

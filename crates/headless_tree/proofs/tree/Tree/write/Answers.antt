@@ -5,6 +5,7 @@ use Rattle.headless_tree.proofs.Spots.{written, paths_stay, only_values, low_in}
 use Rattle.headless_tree.proofs.Order.{order_same}
 use Rattle.headless_tree.proofs.Fixed.{keeps_same}
 use Rattle.headless_tree.proofs.Numbered.{once_same, numbered_same}
+use Rattle.headless_tree.proofs.Exact.{only_same}
 use Rattle.headless_tree.proofs.tree.Tree.write.Goals as goal
 
 pub invariant_of-self : goal.invariant_of-self
@@ -17,6 +18,7 @@ invariant_of-self c =
       order_same (map live after) (map live c.self.inside.nodes.items) same c.self.invariant.3,
       keeps_same c.self.inside.scene (map live after) (map live c.self.inside.nodes.items) same c.self.invariant.4,
       c.self.invariant.5,
+      only_same c.self.inside.numbers (map live after) (map live c.self.inside.nodes.items) same c.self.invariant.6,
     )
 
 pub returns : goal.returns
