@@ -25,6 +25,9 @@ add s z 2 1 -> Ok(())
 add s p2 1 3 -> Ok(())
 add s p1 1 1 -> Ok(())
 rows -> 1 0 s;1 0 b;1 1 s/p1;1 3 s/p2;2 1 s/z;
+count_under 1 -> 2
+count_under 2 -> 1
+count_under 3 -> 0
 add q p3 1 5 -> Err(NoNode)
 add s p1 1 5 -> Err(NameTaken)
 rows -> 1 0 s;1 0 b;1 1 s/p1;1 3 s/p2;2 1 s/z;
@@ -38,6 +41,7 @@ remove s/p2 -> false
 rows -> 1 0 s;1 0 b;1 1 s/p1;2 1 s/z;
 remove_under 1 -> ()
 rows -> 1 0 s;1 0 b;2 1 s/z;
+count_under 1 -> 0
 scene -> 2
 "#;
 
@@ -192,6 +196,13 @@ fn remove_under(tree: &mut Tree, auth: &str) -> Option<()> {
     }
 }
 
+fn count_under(tree: &Tree, auth: &str) -> Option<usize> {
+    match auth.parse() {
+        Ok(auth) => Some(tree.count_under(auth)),
+        Err(_) => None,
+    }
+}
+
 /// The integer that a property has, if it has one.
 fn get(tree: &Tree, words: &str) -> Option<i64> {
     let (path, prop) = first(words);
@@ -237,6 +248,7 @@ fn rows(alloc: Global, tree: &Tree) -> Option<String> {
 fn answer_of_look(alloc: Global, tree: &Tree, call: &str, words: &str) -> Option<String> {
     match call {
         "are_new" => shown(alloc, are_new(alloc, tree, words)),
+        "count_under" => shown(alloc, count_under(tree, words)),
         "fixed_place" => shown(alloc, Some(tree.fixed_place(words))),
         "get" => shown(alloc, Some(get(tree, words))),
         "node_at" => shown(alloc, Some(tree.node_at(words).is_some())),
