@@ -1,7 +1,7 @@
 //! Which messages may be encoded.
 ghost use Rattle.std.specs.Prelude.{◌≡◌, true};
 ghost use Rattle.std.specs.List.{AllByRecursion};
-ghost use Rattle.packet_codec.specs.Written.{AreSound, IsTargetSound, IsArgSound, IsEntrySound, IsDeltaEntrySound, IsPlainSound, IsMessageSound};
+ghost use Rattle.packet_form.specs.Written.{AreSound, IsTargetSound, IsArgSound, IsEntrySound, IsDeltaEntrySound, IsPlainSound, IsMessageSound};
 
 use gd_variant::{DeltaEntry, Entry, Message, Plain, Target, Variant, is_sound};
 

@@ -7,7 +7,7 @@ use Rattle.byte_fields.specs.declared.fault.ReadError.{ReadError}
 use Rattle.byte_fields.specs.declared.fault.ReadError.TheVariants as errors
 use Rattle.byte_fields.specs.Fields.{◌>>=◌, Fails}
 use Rattle.variant_codec.specs.Readers.{Reader}
-use Rattle.packet_codec.specs.Wholes.{filling_by}
+use Rattle.packet_form.specs.Wholes.{filling_by}
 
 -- what was read before, and what is still read
 abbrev pub before : {X : Type 0} → List X → Result (List X) Fault → Result (List X) Fault

@@ -15,12 +15,12 @@ use Rattle.gd_variant.specs.declared.message.DeltaEntry.{DeltaEntry}
 use Rattle.gd_variant.specs.declared.message.Why.TheVariants.{Short, Size}
 use Rattle.variant_codec.specs.Readers.{Reader, Relation, Breaking, raw_at}
 use Rattle.variant_codec.proofs.Laws.{IsReader}
-use Rattle.packet_codec.specs.Wholes.{Whole, ending_by}
-use Rattle.packet_codec.specs.Reading.{value_at, values_at, args_at, entry_at, delta_entry_at}
-use Rattle.packet_codec.proofs.Wholes.{IsWhole, IsNeverEmpty, takes_some, ending_whole}
-use Rattle.packet_codec.proofs.ValueLaws.{value_reader, value_some, values_whole}
-use Rattle.packet_codec.proofs.CallLaws.{args_whole}
-use Rattle.packet_codec.proofs.LayoutLaws.{entry_reader, entry_some, delta_entry_reader, delta_entry_some}
+use Rattle.packet_form.specs.Wholes.{Whole, ending_by}
+use Rattle.packet_form.specs.Reading.{value_at, values_at, args_at, entry_at, delta_entry_at}
+use Rattle.packet_form.proofs.Wholes.{IsWhole, IsNeverEmpty, takes_some, ending_whole}
+use Rattle.packet_form.proofs.ValueLaws.{value_reader, value_some, values_whole}
+use Rattle.packet_form.proofs.CallLaws.{args_whole}
+use Rattle.packet_form.proofs.LayoutLaws.{entry_reader, entry_some, delta_entry_reader, delta_entry_some}
 
 -- what follows a part is shorter, and is bytes
 goes_on : {X : Type 0} {read : Reader X} {R : Relation X} {B : Breaking} → IsReader read R B → IsNeverEmpty R → (bytes : List ℕ) (x : X × List ℕ) → IsBytes bytes → read bytes ≡ Ok x → (length x.1 < length bytes) × IsBytes x.1

@@ -1,15 +1,15 @@
 //! Reading a call.
 ghost use Rattle.std.specs.Prelude.{◌≡◌, [], IfOk};
 ghost use Rattle.byte_fields.specs.Fields.{Gives, number_at};
-ghost use Rattle.packet_codec.specs.Head.{width_of, method_width};
-ghost use Rattle.packet_codec.specs.Wholes.{region_by};
-ghost use Rattle.packet_codec.specs.Reading.{count_at, counted_args_at, args_at, raw_args, is_offset, method_end, offset_fits, id_call_at, path_call_at, target_call_at, call_at, value_at};
+ghost use Rattle.packet_form.specs.Head.{width_of, method_width};
+ghost use Rattle.packet_form.specs.Wholes.{region_by};
+ghost use Rattle.packet_form.specs.Reading.{count_at, counted_args_at, args_at, raw_args, is_offset, method_end, offset_fits, id_call_at, path_call_at, target_call_at, call_at, value_at};
 ghost use Rattle.variant_codec.specs.Readers.{list_by};
 
 use crate::fields::{behind, path_from, value_from};
-use crate::head::{CallHead, NodeWidth};
 use byte_fields::{ReadError, u8_at, u16_at, u32_at};
 use gd_variant::{Bytes, OutOfMemory, Plain, Target, ValueList, Variant, Why};
+use packet_form::{CallHead, NodeWidth};
 use sqlite_items::Items;
 use std::alloc::Global;
 use variant_codec::{fault_at, raw_of};
@@ -43,7 +43,7 @@ fn method_from(wide: bool, bytes: &[u8]) -> Result<(u16, &[u8]), ReadError>
     }
 }
 
-#[tactic(auto, unfolding(crate::specs::Reading::count_at))]
+#[tactic(auto, unfolding(packet_form::specs::Reading::count_at))]
 fn count_from(bytes: &[u8]) -> Result<(u8, &[u8]), ReadError>
     ensures { Gives (λ x. (x.0, x.1.now)) result (count_at bytes.now) }
 {
@@ -68,7 +68,7 @@ fn some_values_from(alloc: Global, count: u8, bytes: &[u8]) -> Result<(ValueList
     Ok((values, rest))
 }
 
-#[tactic(auto, unfolding(crate::specs::Reading::counted_args_at))]
+#[tactic(auto, unfolding(packet_form::specs::Reading::counted_args_at))]
 fn counted_args_from(alloc: Global, bytes: &[u8]) -> Result<(ValueList, &[u8]), ReadError>
     ensures { Gives (λ x. (x.0, x.1.now)) result (counted_args_at bytes.now) }
 {
@@ -88,7 +88,7 @@ fn raw_args_of(alloc: Global, bytes: &[u8]) -> Result<ValueList, OutOfMemory>
 }
 
 /// Arguments up to the end.
-#[tactic(auto, unfolding(crate::specs::Reading::args_at))]
+#[tactic(auto, unfolding(packet_form::specs::Reading::args_at))]
 fn args_from(alloc: Global, raw: bool, bytes: &[u8]) -> Result<ValueList, ReadError>
     ensures { Gives (λ x. x) result (args_at raw bytes.now) }
 {
@@ -149,7 +149,7 @@ fn offset_fits(head: CallHead, id: u32, left: usize) -> bool
     method_end(head) <= offset && offset - 5 < left
 }
 
-#[tactic(auto, unfolding(crate::specs::Reading::id_call_at))]
+#[tactic(auto, unfolding(packet_form::specs::Reading::id_call_at))]
 fn id_call_from(alloc: Global, head: CallHead, id: u32, bytes: &[u8]) -> Result<Plain, ReadError>
     ensures { Gives (λ x. x) result (id_call_at head id bytes.now) }
 {
@@ -163,7 +163,7 @@ fn id_call_from(alloc: Global, head: CallHead, id: u32, bytes: &[u8]) -> Result<
 }
 
 /// A call by path, with so many bytes between the method id and the path.
-#[tactic(auto, unfolding(crate::specs::Reading::path_call_at))]
+#[tactic(auto, unfolding(packet_form::specs::Reading::path_call_at))]
 fn path_call_from(
     alloc: Global,
     head: CallHead,
@@ -182,7 +182,7 @@ fn path_call_from(
     })
 }
 
-#[tactic(auto, unfolding(crate::specs::Reading::target_call_at))]
+#[tactic(auto, unfolding(packet_form::specs::Reading::target_call_at))]
 fn target_call_from(
     alloc: Global,
     head: CallHead,
@@ -200,7 +200,7 @@ fn target_call_from(
 }
 
 /// A call, behind its first byte.
-#[tactic(auto, unfolding(crate::specs::Reading::call_at))]
+#[tactic(auto, unfolding(packet_form::specs::Reading::call_at))]
 pub fn call_from(alloc: Global, head: CallHead, bytes: &[u8]) -> Result<Plain, ReadError>
     ensures { Gives (λ x. x) result (call_at head bytes.now) }
 {

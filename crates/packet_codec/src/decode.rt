@@ -6,24 +6,25 @@ ghost use Rattle.gd_variant.specs.declared.message.Bad.{Bad};
 ghost use Rattle.gd_variant.specs.declared.message.Message.{Message};
 ghost use Rattle.variant_codec.specs.Clauses.{Is};
 ghost use Rattle.variant_codec.specs.Reading.{short_at};
-ghost use Rattle.packet_codec.specs.Held.{held_by_message};
-ghost use Rattle.packet_codec.specs.Packets.{Frames, IsBadPacket, read_packet};
-ghost use Rattle.packet_codec.specs.Reading.{plain_of, inner_at, subcommand_at, payload_at, system_at, message_of, message_at};
+ghost use Rattle.packet_form.specs.Held.{held_by_message};
+ghost use Rattle.packet_form.specs.Packets.{Frames, IsBadPacket, read_packet};
+ghost use Rattle.packet_form.specs.Reading.{plain_of, inner_at, subcommand_at, payload_at, system_at, message_of, message_at};
 
 use crate::call::call_from;
-use crate::head::{Head, head_from, is_plain};
+use crate::head::{head_from, is_plain};
 use crate::names::{confirm_from, simplify_from};
 use crate::samples::{delta_from, sync_from};
 use crate::spawn::{despawn_from, spawn_from};
 use byte_fields::{CodecStop, ReadError, u8_at, u32_at};
 use gd_variant::{Bad, Bytes, Message, Plain, Why};
+use packet_form::Head;
 use std::alloc::Global;
 use variant_codec::fault_at;
 
 const MOST_BYTES: usize = 8388608;
 
 /// What stands behind a first byte, unless that is of a system packet.
-#[tactic(auto, unfolding(crate::specs::Reading::plain_of))]
+#[tactic(auto, unfolding(packet_form::specs::Reading::plain_of))]
 fn plain_from(alloc: Global, head: Head, bytes: &[u8]) -> Result<Plain, ReadError>
     ensures { Gives (λ x. x) result (plain_of head bytes.now) }
 {
@@ -44,7 +45,7 @@ fn plain_from(alloc: Global, head: Head, bytes: &[u8]) -> Result<Plain, ReadErro
 }
 
 /// A packet inside a relay.
-#[tactic(auto, unfolding(crate::specs::Reading::inner_at))]
+#[tactic(auto, unfolding(packet_form::specs::Reading::inner_at))]
 fn inner_from(alloc: Global, bytes: &[u8]) -> Result<Plain, ReadError>
     ensures { Gives (λ x. x) result (inner_at bytes.now) }
 {
@@ -55,7 +56,7 @@ fn inner_from(alloc: Global, bytes: &[u8]) -> Result<Plain, ReadError>
     plain_from(alloc, head, rest)
 }
 
-#[tactic(auto, unfolding(crate::specs::Reading::subcommand_at))]
+#[tactic(auto, unfolding(packet_form::specs::Reading::subcommand_at))]
 fn subcommand_from(bytes: &[u8]) -> Result<(u8, &[u8]), ReadError>
     ensures { Gives (λ x. (x.0, x.1.now)) result (subcommand_at bytes.now) }
 {
@@ -75,7 +76,7 @@ fn peer_from(bytes: &[u8]) -> Result<(i32, &[u8]), ReadError>
 }
 
 /// The payload of a system packet.
-#[tactic(auto, unfolding(crate::specs::Reading::payload_at))]
+#[tactic(auto, unfolding(packet_form::specs::Reading::payload_at))]
 fn payload_from(alloc: Global, sub: u8, peer: &i32, bytes: &[u8]) -> Result<Message, ReadError>
     ensures { Gives (λ x. x) result (payload_at sub peer.now bytes.now) }
 {
@@ -104,7 +105,7 @@ fn payload_from(alloc: Global, sub: u8, peer: &i32, bytes: &[u8]) -> Result<Mess
     }
 }
 
-#[tactic(auto, unfolding(crate::specs::Reading::system_at))]
+#[tactic(auto, unfolding(packet_form::specs::Reading::system_at))]
 fn system_from(alloc: Global, bytes: &[u8]) -> Result<Message, ReadError>
     ensures { Gives (λ x. x) result (system_at bytes.now) }
 {
@@ -113,7 +114,7 @@ fn system_from(alloc: Global, bytes: &[u8]) -> Result<Message, ReadError>
     payload_from(alloc, sub, &peer, rest)
 }
 
-#[tactic(auto, unfolding(crate::specs::Reading::message_of))]
+#[tactic(auto, unfolding(packet_form::specs::Reading::message_of))]
 fn message_behind(alloc: Global, head: Head, bytes: &[u8]) -> Result<Message, ReadError>
     ensures { Gives (λ x. x) result (message_of head bytes.now) }
 {
@@ -125,7 +126,7 @@ fn message_behind(alloc: Global, head: Head, bytes: &[u8]) -> Result<Message, Re
     }
 }
 
-#[tactic(auto, unfolding(crate::specs::Reading::message_at))]
+#[tactic(auto, unfolding(packet_form::specs::Reading::message_at))]
 fn message_from(alloc: Global, bytes: &[u8]) -> Result<Message, ReadError>
     ensures { Gives (λ x. x) result (message_at bytes.now) }
 {
@@ -133,7 +134,7 @@ fn message_from(alloc: Global, bytes: &[u8]) -> Result<Message, ReadError>
     message_behind(alloc, head, rest)
 }
 
-#[tactic(auto, unfolding(crate::specs::Packets::read_packet))]
+#[tactic(auto, unfolding(packet_form::specs::Packets::read_packet))]
 fn decoded(alloc: Global, b: &[u8]) -> Result<Message, CodecStop>
     ensures { Answers (λ x. x) result (read_packet b.now) }
 {

@@ -5,7 +5,7 @@ ghost use Rattle.std.specs.Str.{is_utf8};
 ghost use Rattle.byte_fields.specs.Fields.{Gives, fault};
 ghost use Rattle.byte_fields.specs.declared.fault.ReadError.TheVariants as errors;
 ghost use Rattle.gd_variant.specs.Sound.{has_no_zero};
-ghost use Rattle.packet_codec.specs.Reading.{is_some, value_at, values_at, ids_at, path_at, name_length_at, name_at};
+ghost use Rattle.packet_form.specs.Reading.{is_some, value_at, values_at, ids_at, path_at, name_length_at, name_at};
 
 use crate::parts::{Readable, parts_from};
 use byte_fields::{Fault, ReadError, u32_at};
@@ -27,7 +27,7 @@ pub fn behind(inside: Fault, region: &[u8], bytes: &[u8]) -> ReadError
 }
 
 /// A compressed value.
-#[tactic(auto, using(gd_variant::proofs::TreeOf::plain_back), unfolding(crate::specs::Reading::value_at))]
+#[tactic(auto, using(gd_variant::proofs::TreeOf::plain_back), unfolding(packet_form::specs::Reading::value_at))]
 pub fn value_from(alloc: Global, bytes: &[u8]) -> Result<(Variant, &[u8]), ReadError>
     ensures { Gives (λ x. (x.0, x.1.now)) result (value_at bytes.now) }
 {
@@ -44,7 +44,7 @@ impl Readable for Variant {
 }
 
 /// Compressed values up to the end.
-#[tactic(auto, unfolding(crate::specs::Reading::values_at))]
+#[tactic(auto, unfolding(packet_form::specs::Reading::values_at))]
 pub fn values_from(alloc: Global, bytes: &[u8]) -> Result<ValueList, ReadError>
     ensures { Gives (λ x. x) result (values_at bytes.now) }
 {
@@ -52,7 +52,7 @@ pub fn values_from(alloc: Global, bytes: &[u8]) -> Result<ValueList, ReadError>
 }
 
 /// So many ids, each of four bytes.
-#[tactic(auto, unfolding(crate::specs::Reading::ids_at))]
+#[tactic(auto, unfolding(packet_form::specs::Reading::ids_at))]
 pub fn ids_from(alloc: Global, count: u32, bytes: &[u8]) -> Result<(IdList, &[u8]), ReadError>
     ensures { Gives (λ x. (x.0, x.1.now)) result (ids_at count bytes.now) }
 {
@@ -85,7 +85,7 @@ fn text_from(alloc: Global, bytes: &[u8]) -> Result<Option<Text>, OutOfMemory>
 }
 
 /// A text and a zero byte, up to the end.
-#[tactic(auto, unfolding(crate::specs::Reading::path_at))]
+#[tactic(auto, unfolding(packet_form::specs::Reading::path_at))]
 pub fn path_from(alloc: Global, bytes: &[u8]) -> Result<Text, ReadError>
     ensures { Gives (λ x. x) result (path_at bytes.now) }
 {
@@ -105,7 +105,7 @@ pub fn path_from(alloc: Global, bytes: &[u8]) -> Result<Text, ReadError>
 }
 
 /// The length of a name with its zero byte.
-#[tactic(auto, unfolding(crate::specs::Reading::name_length_at))]
+#[tactic(auto, unfolding(packet_form::specs::Reading::name_length_at))]
 pub fn name_length_from(bytes: &[u8]) -> Result<(u32, &[u8]), ReadError>
     ensures gives { Gives (λ x. (x.0, x.1.now)) result (name_length_at bytes.now) }
     ensures some { IfOk result (λ x. 0 < x.0) }
@@ -118,7 +118,7 @@ pub fn name_length_from(bytes: &[u8]) -> Result<(u32, &[u8]), ReadError>
 }
 
 /// A name and its zero byte, in so many bytes.
-#[tactic(auto, unfolding(crate::specs::Reading::name_at))]
+#[tactic(auto, unfolding(packet_form::specs::Reading::name_at))]
 pub fn name_from(alloc: Global, len: u32, bytes: &[u8]) -> Result<(Text, &[u8]), ReadError>
     requires { 0 < len }
     ensures { Gives (λ x. (x.0, x.1.now)) result (name_at len bytes.now) }

@@ -1,44 +1,13 @@
-//! The first byte of a packet: the command in bits 0 to 2, and flags in bits 4 to 7.
+//! The first byte of a packet is read.
 ghost use Rattle.std.specs.Prelude.{◌≡◌};
 ghost use Rattle.byte_fields.specs.Fields.{Gives};
-ghost use Rattle.packet_codec.specs.Head.{is_command, has_width, node_width, call_head, head_of, is_plain};
-ghost use Rattle.packet_codec.specs.Reading.{first_at, head_at};
+ghost use Rattle.packet_form.specs.Head.{is_command, has_width, node_width, call_head, head_of, is_plain};
+ghost use Rattle.packet_form.specs.Reading.{first_at, head_at};
 
 use byte_fields::{ReadError, u8_at};
 use gd_variant::Why;
+use packet_form::{CallHead, Head, NodeWidth};
 use variant_codec::fault_at;
-
-/// How many bytes the node id of a call has.
-#[derive(Clone, Copy, Drop)]
-pub enum NodeWidth {
-    One,
-    Two,
-    Four,
-}
-
-/// The flags of a call.
-#[derive(Clone, Copy, Drop)]
-pub struct CallHead {
-    pub node: NodeWidth,
-    /// The method id has two bytes and not one.
-    pub wide_method: bool,
-    /// The arguments are raw bytes.
-    pub raw: bool,
-}
-
-/// The command of a packet, with its flags.
-#[derive(Clone, Copy, Drop)]
-pub enum Head {
-    Call(CallHead),
-    Simplify,
-    Confirm,
-    Raw,
-    Spawn,
-    Despawn,
-    Sync,
-    Delta,
-    System,
-}
 
 /// Whether bit 3 is zero, and no flag is set but one that the command has.
 fn is_command(byte: u8) -> bool
@@ -78,7 +47,7 @@ fn call_head(byte: u8) -> CallHead
 }
 
 /// What a first byte says that is a command.
-#[tactic(auto, unfolding(crate::specs::Head::head_of))]
+#[tactic(auto, unfolding(packet_form::specs::Head::head_of))]
 pub fn head_of(byte: u8) -> Head
     ensures { result ≡ head_of byte }
 {
@@ -100,7 +69,7 @@ pub fn head_of(byte: u8) -> Head
     }
 }
 
-#[tactic(auto, unfolding(crate::specs::Reading::first_at))]
+#[tactic(auto, unfolding(packet_form::specs::Reading::first_at))]
 fn first_from(bytes: &[u8]) -> Result<(u8, &[u8]), ReadError>
     ensures { Gives (λ x. (x.0, x.1.now)) result (first_at bytes.now) }
 {
@@ -111,7 +80,7 @@ fn first_from(bytes: &[u8]) -> Result<(u8, &[u8]), ReadError>
 }
 
 /// The first byte of a packet.
-#[tactic(auto, unfolding(crate::specs::Reading::head_at))]
+#[tactic(auto, unfolding(packet_form::specs::Reading::head_at))]
 pub fn head_from(bytes: &[u8]) -> Result<(Head, &[u8]), ReadError>
     ensures { Gives (λ x. (x.0, x.1.now)) result (head_at bytes.now) }
 {

@@ -1,26 +1,15 @@
-//! The packets of the multiplayer layer, read and written exactly.
+//! The packets of the multiplayer layer: bytes to a message, and a message to bytes.
 #![tactic(auto)]
 
-mod arguments;
 mod call;
 mod decode;
-mod encode;
 mod fields;
 mod head;
-mod laws;
-mod length;
 mod names;
 mod parts;
-mod put;
 mod samples;
 mod spawn;
-mod write_call;
-mod write_names;
-mod write_samples;
-mod write_spawn;
 
 pub use byte_fields::CodecStop;
 pub use decode::decode_packet;
-pub use encode::encode_packet;
-pub use laws::{bounded, read_faults, read_frames, round_trip, written_frames};
-pub use length::packet_len;
+pub use packet_writer::{encode_packet, packet_len};

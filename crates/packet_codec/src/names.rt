@@ -1,7 +1,7 @@
 //! Reading the packets that name a path and confirm its name.
 ghost use Rattle.std.specs.Prelude.{◌<◌, IfOk};
 ghost use Rattle.byte_fields.specs.Fields.{Gives};
-ghost use Rattle.packet_codec.specs.Reading.{digit_at, digits_at, digest_at, zero_at, simplify_at, flag_at, confirm_at};
+ghost use Rattle.packet_form.specs.Reading.{digit_at, digits_at, digest_at, zero_at, simplify_at, flag_at, confirm_at};
 
 use crate::fields::path_from;
 use byte_fields::{ReadError, u8_at, u32_at};
@@ -10,7 +10,7 @@ use std::alloc::Global;
 use variant_codec::fault_at;
 
 /// A lower-case hexadecimal digit.
-#[tactic(auto, unfolding(crate::specs::Reading::digit_at))]
+#[tactic(auto, unfolding(packet_form::specs::Reading::digit_at))]
 fn digit_from(bytes: &[u8]) -> Result<(u8, &[u8]), ReadError>
     ensures small { IfOk result (λ x. x.0 < 16) }
     ensures gives { Gives (λ x. (x.0, x.1.now)) result (digit_at bytes.now) }
@@ -26,7 +26,7 @@ fn digit_from(bytes: &[u8]) -> Result<(u8, &[u8]), ReadError>
 }
 
 /// A byte in two digits, the high one first.
-#[tactic(auto, unfolding(crate::specs::Reading::digits_at))]
+#[tactic(auto, unfolding(packet_form::specs::Reading::digits_at))]
 fn digits_from(bytes: &[u8]) -> Result<(u8, &[u8]), ReadError>
     ensures { Gives (λ x. (x.0, x.1.now)) result (digits_at bytes.now) }
 {
@@ -36,7 +36,7 @@ fn digits_from(bytes: &[u8]) -> Result<(u8, &[u8]), ReadError>
 }
 
 /// 16 bytes in digits.
-#[tactic(auto, unfolding(crate::specs::Reading::digest_at))]
+#[tactic(auto, unfolding(packet_form::specs::Reading::digest_at))]
 fn digest_from(bytes: &[u8]) -> Result<([u8; 16], &[u8]), ReadError>
     ensures { Gives (λ x. (x.0, x.1.now)) result (digest_at bytes.now) }
 {
@@ -51,7 +51,7 @@ fn digest_from(bytes: &[u8]) -> Result<([u8; 16], &[u8]), ReadError>
 }
 
 /// The zero byte behind the digits.
-#[tactic(auto, unfolding(crate::specs::Reading::zero_at))]
+#[tactic(auto, unfolding(packet_form::specs::Reading::zero_at))]
 fn zero_from(bytes: &[u8]) -> Result<(u8, &[u8]), ReadError>
     ensures { Gives (λ x. (x.0, x.1.now)) result (zero_at bytes.now) }
 {
@@ -63,7 +63,7 @@ fn zero_from(bytes: &[u8]) -> Result<(u8, &[u8]), ReadError>
 }
 
 /// A name for a path, behind its first byte.
-#[tactic(auto, unfolding(crate::specs::Reading::simplify_at))]
+#[tactic(auto, unfolding(packet_form::specs::Reading::simplify_at))]
 pub fn simplify_from(alloc: Global, bytes: &[u8]) -> Result<Plain, ReadError>
     ensures { Gives (λ x. x) result (simplify_at bytes.now) }
 {
@@ -74,7 +74,7 @@ pub fn simplify_from(alloc: Global, bytes: &[u8]) -> Result<Plain, ReadError>
     Ok(Plain::Simplify { digest, id, path })
 }
 
-#[tactic(auto, unfolding(crate::specs::Reading::flag_at))]
+#[tactic(auto, unfolding(packet_form::specs::Reading::flag_at))]
 fn flag_from(bytes: &[u8]) -> Result<(bool, &[u8]), ReadError>
     ensures { Gives (λ x. (x.0, x.1.now)) result (flag_at bytes.now) }
 {
@@ -86,7 +86,7 @@ fn flag_from(bytes: &[u8]) -> Result<(bool, &[u8]), ReadError>
 }
 
 /// A confirmed name, behind its first byte.
-#[tactic(auto, unfolding(crate::specs::Reading::confirm_at))]
+#[tactic(auto, unfolding(packet_form::specs::Reading::confirm_at))]
 pub fn confirm_from(bytes: &[u8]) -> Result<Plain, ReadError>
     ensures { Gives (λ x. x) result (confirm_at bytes.now) }
 {

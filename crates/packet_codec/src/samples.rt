@@ -1,7 +1,7 @@
 //! Reading samples of properties and their changes.
 ghost use Rattle.byte_fields.specs.Fields.{Gives};
-ghost use Rattle.packet_codec.specs.Wholes.{region_by};
-ghost use Rattle.packet_codec.specs.Reading.{values_at, sized_values_at, entry_at, delta_entry_at, sync_at, delta_at};
+ghost use Rattle.packet_form.specs.Wholes.{region_by};
+ghost use Rattle.packet_form.specs.Reading.{values_at, sized_values_at, entry_at, delta_entry_at, sync_at, delta_at};
 
 use crate::fields::{behind, values_from};
 use crate::parts::{Readable, parts_from};
@@ -23,7 +23,7 @@ fn values_within(alloc: Global, len: usize, bytes: &[u8]) -> Result<(ValueList, 
 }
 
 /// Values behind their size.
-#[tactic(auto, unfolding(crate::specs::Reading::sized_values_at))]
+#[tactic(auto, unfolding(packet_form::specs::Reading::sized_values_at))]
 fn sized_values_from(alloc: Global, bytes: &[u8]) -> Result<(ValueList, &[u8]), ReadError>
     ensures { Gives (λ x. (x.0, x.1.now)) result (sized_values_at bytes.now) }
 {
@@ -31,7 +31,7 @@ fn sized_values_from(alloc: Global, bytes: &[u8]) -> Result<(ValueList, &[u8]), 
     values_within(alloc, size as usize, rest)
 }
 
-#[tactic(auto, unfolding(crate::specs::Reading::entry_at))]
+#[tactic(auto, unfolding(packet_form::specs::Reading::entry_at))]
 fn entry_from(alloc: Global, bytes: &[u8]) -> Result<(Entry, &[u8]), ReadError>
     ensures { Gives (λ x. (x.0, x.1.now)) result (entry_at bytes.now) }
 {
@@ -40,7 +40,7 @@ fn entry_from(alloc: Global, bytes: &[u8]) -> Result<(Entry, &[u8]), ReadError>
     Ok((Entry { id, values }, rest))
 }
 
-#[tactic(auto, unfolding(crate::specs::Reading::delta_entry_at))]
+#[tactic(auto, unfolding(packet_form::specs::Reading::delta_entry_at))]
 fn delta_entry_from(alloc: Global, bytes: &[u8]) -> Result<(DeltaEntry, &[u8]), ReadError>
     ensures { Gives (λ x. (x.0, x.1.now)) result (delta_entry_at bytes.now) }
 {
@@ -67,7 +67,7 @@ impl Readable for DeltaEntry {
 }
 
 /// Samples, behind their first byte.
-#[tactic(auto, unfolding(crate::specs::Reading::sync_at))]
+#[tactic(auto, unfolding(packet_form::specs::Reading::sync_at))]
 pub fn sync_from(alloc: Global, bytes: &[u8]) -> Result<Plain, ReadError>
     ensures { Gives (λ x. x) result (sync_at bytes.now) }
 {
@@ -77,7 +77,7 @@ pub fn sync_from(alloc: Global, bytes: &[u8]) -> Result<Plain, ReadError>
 }
 
 /// Changes, behind their first byte.
-#[tactic(auto, unfolding(crate::specs::Reading::delta_at))]
+#[tactic(auto, unfolding(packet_form::specs::Reading::delta_at))]
 pub fn delta_from(alloc: Global, bytes: &[u8]) -> Result<Plain, ReadError>
     ensures { Gives (λ x. x) result (delta_at bytes.now) }
 {

@@ -1,8 +1,8 @@
 //! Reading spawns and despawns.
 ghost use Rattle.byte_fields.specs.Fields.{Gives};
 ghost use Rattle.gd_variant.specs.declared.message.Why.TheVariants.{Size};
-ghost use Rattle.packet_codec.specs.Wholes.{ending_by, region_by};
-ghost use Rattle.packet_codec.specs.Reading.{value_at, arg_at, arg_for, spawn_at, despawn_at};
+ghost use Rattle.packet_form.specs.Wholes.{ending_by, region_by};
+ghost use Rattle.packet_form.specs.Reading.{value_at, arg_at, arg_for, spawn_at, despawn_at};
 
 use crate::fields::{behind, ids_from, name_from, name_length_from, value_from, values_from};
 use byte_fields::{ReadError, u8_at, u32_at};
@@ -34,7 +34,7 @@ fn value_within(alloc: Global, len: usize, bytes: &[u8]) -> Result<(Variant, &[u
 }
 
 /// A custom argument behind its size.
-#[tactic(auto, unfolding(crate::specs::Reading::arg_at))]
+#[tactic(auto, unfolding(packet_form::specs::Reading::arg_at))]
 fn arg_from(alloc: Global, bytes: &[u8]) -> Result<(Variant, &[u8]), ReadError>
     ensures { Gives (λ x. (x.0, x.1.now)) result (arg_at bytes.now) }
 {
@@ -43,7 +43,7 @@ fn arg_from(alloc: Global, bytes: &[u8]) -> Result<(Variant, &[u8]), ReadError>
 }
 
 /// The custom argument, which stands there for scene 255 alone.
-#[tactic(auto, unfolding(crate::specs::Reading::arg_for))]
+#[tactic(auto, unfolding(packet_form::specs::Reading::arg_for))]
 fn arg_for(alloc: Global, scene: u8, bytes: &[u8]) -> Result<(Option<Variant>, &[u8]), ReadError>
     ensures { Gives (λ x. (x.0, x.1.now)) result (arg_for scene bytes.now) }
 {
@@ -56,7 +56,7 @@ fn arg_for(alloc: Global, scene: u8, bytes: &[u8]) -> Result<(Option<Variant>, &
 }
 
 /// A spawn, behind its first byte.
-#[tactic(auto, unfolding(crate::specs::Reading::spawn_at))]
+#[tactic(auto, unfolding(packet_form::specs::Reading::spawn_at))]
 pub fn spawn_from(alloc: Global, bytes: &[u8]) -> Result<Plain, ReadError>
     ensures { Gives (λ x. x) result (spawn_at bytes.now) }
 {
@@ -81,7 +81,7 @@ pub fn spawn_from(alloc: Global, bytes: &[u8]) -> Result<Plain, ReadError>
 }
 
 /// A despawn, behind its first byte.
-#[tactic(auto, unfolding(crate::specs::Reading::despawn_at))]
+#[tactic(auto, unfolding(packet_form::specs::Reading::despawn_at))]
 pub fn despawn_from(bytes: &[u8]) -> Result<Plain, ReadError>
     ensures { Gives (λ x. x) result (despawn_at bytes.now) }
 {

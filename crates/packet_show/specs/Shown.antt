@@ -5,7 +5,7 @@ use Rattle.gd_variant.specs.declared.message.Message.{Message}
 use Rattle.hex.specs.Hex.{decode_of}
 use Rattle.hex.specs.declared.error.FromHexError.{FromHexError}
 use Rattle.hex.specs.declared.error.FromHexError.TheVariants as hex
-use Rattle.packet_codec.specs.Packets.{read_packet}
+use Rattle.packet_form.specs.Packets.{read_packet}
 use Rattle.session_text.specs.Messages.{bad_line, message_line}
 use Rattle.program_edge.specs.declared.status.LineWhy.{LineWhy}
 use Rattle.program_edge.specs.declared.status.LineWhy.TheVariants.{Hex}

@@ -14,10 +14,10 @@ use Rattle.gd_variant.specs.declared.message.Plain.{Plain}
 use Rattle.gd_variant.specs.declared.message.Plain.TheVariants as packet
 use Rattle.gd_variant.specs.declared.message.Message.TheVariants.{Plain as plain_packet}
 use Rattle.variant_codec.proofs.Forms.{small_written_size, small_int_short}
-use Rattle.packet_codec.specs.Packets.{most_bytes, IsEncodable, IsWritable}
-use Rattle.packet_codec.specs.Written.{written_value, written_values, written_packet, AreSound}
-use Rattle.packet_codec.proofs.Lengths.{spawn_size}
-use Rattle.packet_codec.proofs.Written.{round_trip}
+use Rattle.packet_form.specs.Packets.{most_bytes, IsEncodable, IsWritable}
+use Rattle.packet_form.specs.Written.{written_value, written_values, written_packet, AreSound}
+use Rattle.packet_form.proofs.Lengths.{spawn_size}
+use Rattle.packet_form.proofs.Written.{round_trip}
 use Rattle.scene_model.specs.declared.scene.Scene.{Scene}
 use Rattle.scene_model.specs.declared.scene.Prop.{Prop}
 use Rattle.scene_model.specs.Paths.{is_name}

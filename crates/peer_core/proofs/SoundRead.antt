@@ -14,14 +14,14 @@ use Rattle.gd_variant.specs.declared.message.Message.TheVariants as message
 use Rattle.variant_codec.specs.Readers.{Relation, IsDone, Mapped, Then}
 use Rattle.variant_codec.specs.Parts.{SpellsEach}
 use Rattle.variant_codec.proofs.Top.{compressed}
-use Rattle.packet_codec.specs.declared.head.CallHead.{CallHead}
-use Rattle.packet_codec.specs.declared.head.Head.{Head}
-use Rattle.packet_codec.specs.declared.head.Head.TheVariants as head
-use Rattle.packet_codec.specs.Head.{is_plain}
-use Rattle.packet_codec.specs.Grammar.{IsValue, IsArgFor, IsCall, IsSpawn, IsPlainOf, IsPayload, IsMessage}
-use Rattle.packet_codec.specs.Reading.{is_offset, offset_fits}
-use Rattle.packet_codec.specs.Wholes.{Fitting, Region, Chosen}
-use Rattle.packet_codec.specs.Packets.{Frames}
+use Rattle.packet_form.specs.declared.head.CallHead.{CallHead}
+use Rattle.packet_form.specs.declared.head.Head.{Head}
+use Rattle.packet_form.specs.declared.head.Head.TheVariants as head
+use Rattle.packet_form.specs.Head.{is_plain}
+use Rattle.packet_form.specs.Grammar.{IsValue, IsArgFor, IsCall, IsSpawn, IsPlainOf, IsPayload, IsMessage}
+use Rattle.packet_form.specs.Reading.{is_offset, offset_fits}
+use Rattle.packet_form.specs.Wholes.{Fitting, Region, Chosen}
+use Rattle.packet_form.specs.Packets.{Frames}
 use Rattle.peer_steps.specs.Sound.{is_sound_argument, is_sound_message}
 
 -- what stands in at most as many bytes as a packet has passes a test

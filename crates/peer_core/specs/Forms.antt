@@ -1,6 +1,6 @@
 -- How the packets of this project are read and written.
-use Rattle.packet_codec.specs.Packets.{read_packet}
-use Rattle.packet_codec.specs.Written.{written_packet}
+use Rattle.packet_form.specs.Packets.{read_packet}
+use Rattle.packet_form.specs.Written.{written_packet}
 use Rattle.peer_model.specs.Bytes.{PacketForm}
 
 -- each packet by its grammar

@@ -5,7 +5,7 @@ ghost use Rattle.std.specs.Option.{option_copied};
 ghost use Rattle.std.specs.Ordering.{int_eq};
 ghost use Rattle.gd_variant.specs.Words.{has_int};
 ghost use Rattle.scene_model.specs.Valid.{IsValidScene};
-ghost use Rattle.packet_codec.specs.Packets.{read_packet};
+ghost use Rattle.packet_form.specs.Packets.{read_packet};
 ghost use Rattle.peer_core.specs.declared.links.Link.{Link as LinkOf};
 ghost use Rattle.peer_steps.specs.declared.rows.SpawnedRow.{SpawnedRow as RowOf};
 ghost use Rattle.peer_core.specs.Links.{peers_of};

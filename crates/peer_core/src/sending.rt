@@ -4,7 +4,7 @@ ghost use Rattle.std.specs.List.{list_all};
 ghost use Rattle.gd_variant.specs.Words.{or_else};
 ghost use Rattle.gd_variant.specs.declared.value.Variant.TheVariants.{Nil as nil_value};
 ghost use Rattle.gd_variant.specs.declared.message.Message.TheVariants.{Plain as plain_packet};
-ghost use Rattle.packet_codec.specs.Written.{written_packet};
+ghost use Rattle.packet_form.specs.Written.{written_packet};
 ghost use Rattle.scene_model.specs.Valid.{IsValidScene};
 ghost use Rattle.scene_model.specs.Syncs.{spawn_props};
 ghost use Rattle.peer_model.specs.Rows.{syncs_at};

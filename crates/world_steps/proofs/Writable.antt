@@ -10,8 +10,8 @@ use Rattle.std.specs.Str.{is_utf8}
 use Rattle.gd_variant.specs.declared.value.Variant.{Variant}
 use Rattle.gd_variant.specs.declared.message.Plain.TheVariants as packet
 use Rattle.gd_variant.specs.declared.message.Message.TheVariants.{Plain as plain_packet}
-use Rattle.packet_codec.specs.Packets.{IsEncodable}
-use Rattle.packet_codec.specs.Written.{FitsSpawn, IsName, AreIds}
+use Rattle.packet_form.specs.Packets.{IsEncodable}
+use Rattle.packet_form.specs.Written.{FitsSpawn, IsName, AreIds}
 use Rattle.scene_model.specs.declared.scene.Scene.{Scene}
 use Rattle.scene_model.specs.declared.scene.Node.{Node}
 use Rattle.scene_model.specs.declared.scene.SpawnerDef.{SpawnerDef}

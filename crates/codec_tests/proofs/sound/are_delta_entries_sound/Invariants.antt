@@ -1,6 +1,6 @@
 use Rattle.std.proofs.Common.{take}
 use Rattle.std.specs.List.{AllByRecursion}
-use Rattle.packet_codec.specs.Written.{IsDeltaEntrySound}
+use Rattle.packet_form.specs.Written.{IsDeltaEntrySound}
 use Rattle.codec_tests.proofs.sound.are_delta_entries_sound.Given as goal
 
 -- the entries in front are sound

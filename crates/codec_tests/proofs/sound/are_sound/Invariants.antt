@@ -1,5 +1,5 @@
 use Rattle.std.proofs.Common.{take}
-use Rattle.packet_codec.specs.Written.{AreSound}
+use Rattle.packet_form.specs.Written.{AreSound}
 use Rattle.codec_tests.proofs.sound.are_sound.Given as goal
 
 -- the values in front are sound

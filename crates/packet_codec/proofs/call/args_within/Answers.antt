@@ -1,5 +1,5 @@
 use Rattle.std.proofs.Common.{arith}
-use Rattle.packet_codec.specs.Reading.{args_at}
+use Rattle.packet_form.specs.Reading.{args_at}
 use Rattle.packet_codec.proofs.Places.{breaks_inside, args_within}
 use Rattle.packet_codec.proofs.call.args_within.Goals as goal
 

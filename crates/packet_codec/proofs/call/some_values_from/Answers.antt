@@ -1,6 +1,6 @@
 use Rattle.std.proofs.Common.{[]}
 use Rattle.variant_codec.proofs.Loop.{goes_on}
-use Rattle.packet_codec.specs.Reading.{value_at}
+use Rattle.packet_form.specs.Reading.{value_at}
 use Rattle.packet_codec.proofs.call.some_values_from.Goals as goal
 
 pub loop-preserved : goal.loop-preserved

@@ -1,6 +1,6 @@
 use Rattle.std.proofs.Common.{◌≡◌, ◌-◌, []}
 use Rattle.variant_codec.specs.Readers.{list_by}
-use Rattle.packet_codec.specs.Reading.{value_at}
+use Rattle.packet_form.specs.Reading.{value_at}
 use Rattle.packet_codec.proofs.call.some_values_from.Given as goal
 
 -- what is left goes on from what was read

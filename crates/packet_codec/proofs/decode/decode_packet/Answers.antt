@@ -1,6 +1,6 @@
 use Rattle.std.proofs.Common.{arith}
-use Rattle.packet_codec.proofs.Bounds.{answer_held}
-use Rattle.packet_codec.proofs.Top.{answer_frames, answer_only, fault_found, fault_only}
+use Rattle.packet_form.proofs.Bounds.{answer_held}
+use Rattle.packet_form.proofs.Top.{answer_frames, answer_only, fault_found, fault_only}
 use Rattle.packet_codec.proofs.decode.decode_packet.Goals as goal
 
 pub returns-clause-found : goal.returns-clause-found

@@ -3,7 +3,7 @@ use Rattle.std.specs.Int.{w32}
 use Rattle.std.proofs.lemmas.Result.{err_from_is_err_and}
 use Rattle.byte_fields.specs.Fields.{number_at}
 use Rattle.variant_codec.proofs.Loop.{goes_on, ends}
-use Rattle.packet_codec.specs.Reading.{ids_at}
+use Rattle.packet_form.specs.Reading.{ids_at}
 use Rattle.packet_codec.proofs.fields.ids_from.Goals as goal
 
 pub returns-in_err-id : goal.returns-in_err-id

@@ -1,7 +1,7 @@
 use Rattle.std.proofs.Common.{◌+◌, [], take, set, Ok, ap, ◌∙◌, arith}
 use Rattle.std.proofs.lemmas.List.{take_more_set, length-set, take_all}
 use Rattle.variant_codec.proofs.Loop.{goes_on, is_done}
-use Rattle.packet_codec.specs.Reading.{digits_at, digest_at}
+use Rattle.packet_form.specs.Reading.{digits_at, digest_at}
 use Rattle.packet_codec.proofs.names.digest_from.Goals as goal
 
 pub loop-i-preserved : goal.loop-i-preserved

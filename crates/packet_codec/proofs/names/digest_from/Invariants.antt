@@ -1,6 +1,6 @@
 use Rattle.std.proofs.Common.{◌≡◌, ◌-◌, [], take, length}
 use Rattle.variant_codec.specs.Readers.{list_by}
-use Rattle.packet_codec.specs.Reading.{digits_at}
+use Rattle.packet_form.specs.Reading.{digits_at}
 use Rattle.packet_codec.proofs.names.digest_from.Given as goal
 
 -- what is left goes on from the numbers in front

@@ -1,6 +1,6 @@
 use Rattle.std.proofs.Common.{length}
 use Rattle.std.proofs.lemmas.Result.{err_from_is_err_and}
-use Rattle.packet_codec.specs.Wholes.{filling_by}
+use Rattle.packet_form.specs.Wholes.{filling_by}
 use Rattle.packet_codec.proofs.Filling.{fills_on, fills_end, fills_done, some_left, none_left}
 use Rattle.packet_codec.proofs.parts.parts_from.Goals as goal
 

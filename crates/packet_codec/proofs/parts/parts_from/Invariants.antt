@@ -1,5 +1,5 @@
 use Rattle.std.proofs.Common.{length}
-use Rattle.packet_codec.specs.Wholes.{filling_by}
+use Rattle.packet_form.specs.Wholes.{filling_by}
 use Rattle.packet_codec.proofs.Filling.{Fills}
 use Rattle.packet_codec.proofs.parts.parts_from.Given as goal
 

@@ -1,5 +1,5 @@
 use Rattle.std.proofs.Common.{arith}
-use Rattle.packet_codec.specs.Reading.{values_at}
+use Rattle.packet_form.specs.Reading.{values_at}
 use Rattle.packet_codec.proofs.Places.{breaks_inside, values_within}
 use Rattle.packet_codec.proofs.samples.values_within.Goals as goal
 

@@ -1,7 +1,7 @@
 use Rattle.gd_variant.specs.declared.message.Why.TheVariants.{Size}
-use Rattle.packet_codec.specs.Wholes.{ending_by}
+use Rattle.packet_form.specs.Wholes.{ending_by}
 use Rattle.std.proofs.Common.{arith}
-use Rattle.packet_codec.specs.Reading.{value_at}
+use Rattle.packet_form.specs.Reading.{value_at}
 use Rattle.packet_codec.proofs.Places.{breaks_inside, only_value_within}
 use Rattle.packet_codec.proofs.spawn.value_within.Goals as goal
 

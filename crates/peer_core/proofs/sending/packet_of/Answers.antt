@@ -1,5 +1,5 @@
 use Rattle.std.proofs.Common.{subst, sym}
-use Rattle.packet_codec.specs.Packets.{IsEncodable}
+use Rattle.packet_form.specs.Packets.{IsEncodable}
 use Rattle.peer_core.proofs.Encodable.{encodable}
 use Rattle.peer_core.proofs.sending.packet_of.Goals as goal
 

@@ -1,5 +1,5 @@
 use Rattle.std.proofs.Common.{arith}
-use Rattle.packet_codec.specs.Reading.{value_at}
+use Rattle.packet_form.specs.Reading.{value_at}
 use Rattle.packet_codec.proofs.Places.{gives_shorter, value_goes}
 use Rattle.packet_codec.proofs.fields.VariantReadable.from_bytes.Goals as goal
 

@@ -1,5 +1,5 @@
 use Rattle.std.proofs.Common.{arith}
-use Rattle.packet_codec.specs.Reading.{delta_entry_at}
+use Rattle.packet_form.specs.Reading.{delta_entry_at}
 use Rattle.packet_codec.proofs.Places.{gives_shorter, delta_entry_goes}
 use Rattle.packet_codec.proofs.samples.DeltaEntryReadable.from_bytes.Goals as goal
 

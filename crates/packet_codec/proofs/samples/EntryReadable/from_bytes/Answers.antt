@@ -1,5 +1,5 @@
 use Rattle.std.proofs.Common.{arith}
-use Rattle.packet_codec.specs.Reading.{entry_at}
+use Rattle.packet_form.specs.Reading.{entry_at}
 use Rattle.packet_codec.proofs.Places.{gives_shorter, entry_goes}
 use Rattle.packet_codec.proofs.samples.EntryReadable.from_bytes.Goals as goal
 

@@ -1,8 +1,0 @@
-use Rattle.packet_codec.proofs.Top.{read_found, read_only}
-use Rattle.packet_codec.proofs.laws.read_frames.Goals as goal
-
-pub returns-clause-found : goal.returns-clause-found
-returns-clause-found c = λ m b. read_found b m
-
-pub returns-clause-only : goal.returns-clause-only
-returns-clause-only c = λ m b. read_only b m

@@ -1,5 +1,0 @@
-use Rattle.packet_codec.proofs.Written.{written_frames}
-use Rattle.packet_codec.proofs.laws.written_frames.Goals as goal
-
-pub returns : goal.returns
-returns c = written_frames

@@ -1,7 +1,0 @@
-use Rattle.std.proofs.Common.{◌≡◌, ◌++◌, take}
-use Rattle.packet_codec.specs.Written.{written_values}
-use Rattle.packet_codec.proofs.put.put_values.Given as goal
-
--- the values in front are written
-abbrev pub invariant-loop-value : goal.invariant-loop-value
-invariant-loop-value l = l.out.items ≡ l.fn.out.items ++ written_values (take l.value-index l.values)

@@ -1,0 +1,13 @@
+pub mod Wholes
+pub mod ValueLaws
+pub mod PathLaws
+pub mod FieldLaws
+pub mod CallLaws
+pub mod LayoutLaws
+pub mod MessageLaws
+pub mod Top
+pub mod Bounds
+pub mod Lengths
+pub mod WrittenParts
+pub mod WrittenCalls
+pub mod Written
