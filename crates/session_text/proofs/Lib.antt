@@ -1,4 +1,2 @@
-pub mod Floats
-pub mod PacketFloats
-pub mod Pushed
+pub mod Told
 pub mod Nested

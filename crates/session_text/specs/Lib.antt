@@ -1,4 +1,5 @@
 pub mod Json
+pub mod Tokens
 pub mod Values
 pub mod Reasons
 pub mod Outcomes

@@ -29,10 +29,14 @@ abbrev pub target_of : Target → Data
 target_of (target.Id id) = nat_of id
 target_of (target.At path) = string path
 
+-- an array of one value
+abbrev pub one_of : Variant → Data
+one_of value = array_of (value_of value ∷ [])
+
 -- an array of the custom argument, empty where there is none
 abbrev pub arg_of : Option Variant → Data
 arg_of None = array_of []
-arg_of (Some value) = array_of (value_of value ∷ [])
+arg_of (Some value) = one_of value
 
 -- what a Sync packet says of one synchronizer
 abbrev pub entry_of : Entry → Data
@@ -59,13 +63,17 @@ plain_cells (plain.Despawn net) = string (codes "despawn") ∷ nat_of net ∷ []
 plain_cells (plain.Sync tick entries) = string (codes "sync") ∷ nat_of tick ∷ entries_of entries ∷ []
 plain_cells (plain.Delta entries) = string (codes "delta") ∷ deltas_of entries ∷ []
 
--- the cells of a packet of a link; the packet in a relay is one cell
+-- the packet in a relay is one cell
+abbrev pub plain_array : Plain → Data
+plain_array inner = array_of (plain_cells inner)
+
+-- the cells of a packet of a link
 abbrev pub message_cells : Message → List Data
 message_cells (message.Plain p) = plain_cells p
 message_cells (message.Auth peer bytes) = string (codes "auth") ∷ int_of peer ∷ hex_of bytes ∷ []
 message_cells (message.AddPeer peer) = string (codes "add") ∷ int_of peer ∷ []
 message_cells (message.DelPeer peer) = string (codes "del") ∷ int_of peer ∷ []
-message_cells (message.Relay peer inner) = string (codes "relay") ∷ int_of peer ∷ array_of (plain_cells inner) ∷ []
+message_cells (message.Relay peer inner) = string (codes "relay") ∷ int_of peer ∷ plain_array inner ∷ []
 
 -- the line of a packet
 abbrev pub message_line : Message → List ℕ

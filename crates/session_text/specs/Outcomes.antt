@@ -40,9 +40,13 @@ abbrev pub made_lines : Option ℤ → List ℕ
 made_lines (Some p) = line_of (string (codes "new") ∷ int_of p ∷ [])
 made_lines None = []
 
--- an event that was done, a client that it made, and what each peer did
+-- an event that was done
+abbrev pub number_line : ℕ → List ℕ
+number_line n = line_of (nat_of n ∷ string (codes "done") ∷ [])
+
+-- the same, a client that it made, and what each peer did
 abbrev pub done_lines : ℕ → Option ℤ → List PeerStep → List ℕ
-done_lines n made steps = line_of (nat_of n ∷ string (codes "done") ∷ []) ++ made_lines made ++ flat_map step_lines steps
+done_lines n made steps = number_line n ++ made_lines made ++ flat_map step_lines steps
 
 -- a refusal of the session
 abbrev pub world_no_line : ℕ → WorldNo → List ℕ

@@ -17,16 +17,25 @@ abbrev pub ints_of : List ℤ → Data
 ints_of zs = array (items_of (map int_of zs))
 
 -- a path: whether it is absolute, its names, and the names of properties
+abbrev pub path_parts : Bool → List (List ℕ) → List (List ℕ) → Data
+path_parts absolute names subnames = array (item (boolean absolute) (item (texts_of names) (item (texts_of subnames) no_items)))
+
 abbrev pub path_of : Bool → List (List ℕ) → List (List ℕ) → Data
-path_of absolute names subnames = tagged_of (codes "path") (array (item (boolean absolute) (item (texts_of names) (item (texts_of subnames) no_items))))
+path_of absolute names subnames = tagged_of (codes "path") (path_parts absolute names subnames)
 
 -- an integer vector: its code and its numbers
+abbrev pub vector_parts : ℕ → List ℤ → Data
+vector_parts code zs = array (item (nat_of code) (item (ints_of zs) no_items))
+
 abbrev pub vector_of : ℕ → List ℤ → Data
-vector_of code zs = tagged_of (codes "ints") (array (item (nat_of code) (item (ints_of zs) no_items)))
+vector_of code zs = tagged_of (codes "ints") (vector_parts code zs)
 
 -- a value of floats: its code, whether they have eight bytes, and the bytes
+abbrev pub opaque_parts : ℕ → Bool → List ℕ → Data
+opaque_parts code wide bytes = array (item (nat_of code) (item (boolean wide) (item (hex_of bytes) no_items)))
+
 abbrev pub opaque_of : ℕ → Bool → List ℕ → Data
-opaque_of code wide bytes = tagged_of (codes "raw") (array (item (nat_of code) (item (boolean wide) (item (hex_of bytes) no_items))))
+opaque_of code wide bytes = tagged_of (codes "raw") (opaque_parts code wide bytes)
 
 -- the key of an array of numbers
 abbrev pub run_name : Bool → List ℕ
@@ -72,6 +81,10 @@ value_of v = tree_data (plain v)
 -- an entry of a dictionary in a line
 abbrev pub pair_of : Pair → Data
 pair_of p = pair_data (value_of p.key) (value_of p.value)
+
+-- an array of entries
+abbrev pub pairs_of : List Pair → Data
+pairs_of ps = array (items_of (map pair_of ps))
 
 -- an array of values
 abbrev pub values_of : List Variant → Data

@@ -2,8 +2,8 @@
 ghost use Rattle.std.specs.Prelude.{◌≡◌, IfOk};
 ghost use Rattle.session_text.specs.Decoded.{decoded_line};
 
-use crate::json::{hexadecimal, nat, push_line, string};
-use crate::values::value_json;
+use crate::line::{begin, end, hexadecimal, nat, text};
+use crate::values::value as tell;
 use gd_variant::{Bytes, OutOfMemory, Variant};
 use std::alloc::Global;
 
@@ -17,14 +17,12 @@ pub fn decoded_text(
 ) -> Result<Bytes, OutOfMemory>
     ensures { IfOk result (λ b. b ≡ decoded_line len value.now written.now) }
 {
-    let word = string(alloc, "value")?;
-    let told = value_json(value, alloc)?;
-    let form = hexadecimal(alloc, written)?;
-    let mut out = Vec::new(alloc);
-    push_line(
-        alloc,
-        &mut out,
-        vec![in alloc; word, nat(len as u64), told, form]?,
-    )?;
+    let mut out = Vec::with_capacity(alloc, 128)?;
+    let mut line = begin(alloc, &mut out)?;
+    text("value", &mut line)?;
+    nat(len as u64, &mut line)?;
+    tell(value, alloc, &mut line)?;
+    hexadecimal(alloc, written, &mut line)?;
+    end(line, &mut out)?;
     Ok(Bytes::from_vec(out))
 }

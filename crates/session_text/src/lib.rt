@@ -1,8 +1,9 @@
 //! The lines that the program writes: what values, packets, answers and reports are in text.
 #![tactic(auto)]
 
+mod cells;
 mod decoded;
-mod json;
+mod line;
 mod messages;
 mod outcomes;
 mod reasons;

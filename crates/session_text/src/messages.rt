@@ -1,98 +1,76 @@
 //! The lines that tell what a packet says, and what is wrong with bytes that are none.
-ghost use Rattle.std.specs.Prelude.{◌≡◌, map, IfOk};
-ghost use Rattle.serde_json.specs.View.{view};
-ghost use Rattle.session_text.specs.Messages.{arg_of, bad_line, delta_of, deltas_of, entries_of, entry_of, ids_of, message_cells as message_cells_of, message_line, plain_cells as plain_cells_of, target_of};
-ghost use Rattle.session_text.specs.Values.{values_of};
+ghost use Rattle.std.specs.Prelude.{◌≡◌, IfOk, OnOk};
+ghost use Rattle.session_text.specs.Messages.{arg_of, bad_line, delta_of, deltas_of, entries_of, entry_of, ids_of, message_cells as message_cells_of, message_line, one_of, plain_array, plain_cells as plain_cells_of, target_of};
+ghost use Rattle.session_text.specs.Tokens.{Adds, AddsCells, tokens_of};
 
-use crate::json::{hexadecimal, int, nat, push_line, string};
+use crate::cells::{Cell, list};
+use crate::line::{begin, begin_list, end, end_list, hexadecimal, int, nat, text, truth};
 use crate::reasons::why_name;
-use crate::values::{value_json, values_json};
+use crate::values::{value, values};
 use gd_variant::{Bad, Bytes, DeltaEntry, Entry, Message, OutOfMemory, Plain, Target, Variant};
-use serde_json::Value;
+use json::Writer;
 use std::alloc::Global;
 
-/// An array of values.
-fn array_json(alloc: Global, values: &[Variant]) -> Result<Value, OutOfMemory>
-    ensures { IfOk result (λ v. view v ≡ values_of values.now) }
-{
-    Ok(Value::Array(values_json(values, alloc)?))
-}
-
-/// An array of numbers.
-fn ids_json(alloc: Global, ids: &[u32]) -> Result<Value, OutOfMemory>
-    ensures { IfOk result (λ v. view v ≡ ids_of ids.now) }
-{
-    let mut all = Vec::new(alloc);
-    for id in ids {
-        all.push(nat(*id as u64))?;
-    }
-    Ok(Value::Array(all))
-}
-
-/// The node of a call: its number or its path.
-fn target_json(alloc: Global, target: &Target) -> Result<Value, OutOfMemory>
-    ensures { IfOk result (λ v. view v ≡ target_of target.now) }
-{
-    match target {
-        Target::Id(id) => Ok(nat(*id as u64)),
-        Target::At(path) => string(alloc, path.as_str()),
-    }
-}
-
-/// An array of the custom argument, empty where there is none.
-fn arg_json(alloc: Global, arg: &Option<Variant>) -> Result<Value, OutOfMemory>
-    ensures { IfOk result (λ v. view v ≡ arg_of arg.now) }
-{
-    match arg {
-        Some(value) => {
-            let value = value_json(value, alloc)?;
-            Ok(Value::Array(vec![in alloc; value]?))
-        }
-        None => Ok(Value::Array(Vec::new(alloc))),
-    }
-}
-
 /// What a Sync packet says of one synchronizer.
-fn entry_json(alloc: Global, entry: &Entry) -> Result<Value, OutOfMemory>
-    ensures { IfOk result (λ v. view v ≡ entry_of entry.now) }
-{
-    let values = array_json(alloc, entry.values.as_slice())?;
-    Ok(Value::Array(vec![in alloc; nat(entry.id as u64), values]?))
-}
+impl Cell for Entry {
+    ghost cell = { entry_of };
 
-/// What a Sync packet says.
-fn entries_json(alloc: Global, entries: &[Entry]) -> Result<Value, OutOfMemory>
-    ensures { IfOk result (λ v. view v ≡ entries_of entries.now) }
-{
-    let mut all = Vec::new(alloc);
-    for entry in entries {
-        all.push(entry_json(alloc, entry)?)?;
+    #[tactic(auto, using(crate::proofs::Told::two_told))]
+    fn put(&self, alloc: Global, line: &mut Writer) -> Result<(), OutOfMemory> {
+        begin_list(line)?;
+        nat(self.id as u64, line)?;
+        values(self.values.as_slice(), alloc, line)?;
+        end_list(line)
     }
-    Ok(Value::Array(all))
 }
 
 /// What a Delta packet says of one synchronizer.
-fn delta_json(alloc: Global, entry: &DeltaEntry) -> Result<Value, OutOfMemory>
-    ensures { IfOk result (λ v. view v ≡ delta_of entry.now) }
-{
-    let values = array_json(alloc, entry.values.as_slice())?;
-    Ok(Value::Array(vec![in alloc; nat(entry.id as u64), nat(entry.mask), values]?))
+impl Cell for DeltaEntry {
+    ghost cell = { delta_of };
+
+    #[tactic(auto, using(crate::proofs::Told::three_told))]
+    fn put(&self, alloc: Global, line: &mut Writer) -> Result<(), OutOfMemory> {
+        begin_list(line)?;
+        nat(self.id as u64, line)?;
+        nat(self.mask, line)?;
+        values(self.values.as_slice(), alloc, line)?;
+        end_list(line)
+    }
 }
 
-/// What a Delta packet says.
-fn deltas_json(alloc: Global, entries: &[DeltaEntry]) -> Result<Value, OutOfMemory>
-    ensures { IfOk result (λ v. view v ≡ deltas_of entries.now) }
+/// The node of a call: its number or its path.
+fn node(target: &Target, line: &mut Writer) -> Result<(), OutOfMemory>
+    ensures { OnOk result (Adds line.old line.new (tokens_of (target_of target.now))) }
 {
-    let mut all = Vec::new(alloc);
-    for entry in entries {
-        all.push(delta_json(alloc, entry)?)?;
+    match target {
+        Target::Id(id) => nat(*id as u64, line),
+        Target::At(path) => text(path.as_str(), line),
     }
-    Ok(Value::Array(all))
+}
+
+/// An array of one value.
+#[tactic(auto, using(crate::proofs::Told::one_told))]
+fn one_value(alone: &Variant, alloc: Global, line: &mut Writer) -> Result<(), OutOfMemory>
+    ensures { OnOk result (Adds line.old line.new (tokens_of (one_of alone.now))) }
+{
+    begin_list(line)?;
+    value(alone, alloc, line)?;
+    end_list(line)
+}
+
+/// An array of the custom argument, empty where there is none.
+fn argument(arg: &Option<Variant>, alloc: Global, line: &mut Writer) -> Result<(), OutOfMemory>
+    ensures { OnOk result (Adds line.old line.new (tokens_of (arg_of arg.now))) }
+{
+    match arg {
+        Some(alone) => one_value(alone, alloc, line),
+        None => values(&[], alloc, line),
+    }
 }
 
 /// The cells of a packet that one peer means for another.
-fn plain_cells(alloc: Global, plain: &Plain) -> Result<Vec<Value>, OutOfMemory>
-    ensures { IfOk result (λ cells. map view cells.items ≡ plain_cells_of plain.now) }
+fn plain_cells(alloc: Global, plain: &Plain, line: &mut Writer) -> Result<(), OutOfMemory>
+    ensures { OnOk result (AddsCells line.old line.new (plain_cells_of plain.now)) }
 {
     match plain {
         Plain::Call {
@@ -100,25 +78,26 @@ fn plain_cells(alloc: Global, plain: &Plain) -> Result<Vec<Value>, OutOfMemory>
             method,
             args,
         } => {
-            let word = string(alloc, "call")?;
-            let node = target_json(alloc, target)?;
-            let args = array_json(alloc, args.as_slice())?;
-            Ok(vec![in alloc; word, node, nat(*method as u64), args]?)
+            text("call", line)?;
+            node(target, line)?;
+            nat(*method as u64, line)?;
+            values(args.as_slice(), alloc, line)
         }
         Plain::Simplify { digest, id, path } => {
-            let word = string(alloc, "simplify")?;
-            let digest = hexadecimal(alloc, digest.as_slice())?;
-            let path = string(alloc, path.as_str())?;
-            Ok(vec![in alloc; word, digest, nat(*id as u64), path]?)
+            text("simplify", line)?;
+            hexadecimal(alloc, digest.as_slice(), line)?;
+            nat(*id as u64, line)?;
+            text(path.as_str(), line)
         }
         Plain::Confirm { ok, id } => {
-            let word = string(alloc, "confirm")?;
-            Ok(vec![in alloc; word, Value::Bool(*ok), nat(*id as u64)]?)
+            text("confirm", line)?;
+            truth(*ok, line)?;
+            nat(*id as u64, line)
         }
         Plain::Raw { bytes } => {
-            let word = string(alloc, "raw")?;
-            let bytes = hexadecimal(alloc, bytes.as_slice())?;
-            Ok(vec![in alloc; word, bytes]?)
+            text("raw", line)?;
+            hexadecimal(alloc, bytes.as_slice(), line)?;
+            Ok(())
         }
         Plain::Spawn {
             scene,
@@ -127,64 +106,67 @@ fn plain_cells(alloc: Global, plain: &Plain) -> Result<Vec<Value>, OutOfMemory>
             syncs,
             name,
             arg,
-            values,
+            values: told,
         } => {
-            let word = string(alloc, "spawn")?;
-            let syncs = ids_json(alloc, syncs.as_slice())?;
-            let name = string(alloc, name.as_str())?;
-            let arg = arg_json(alloc, arg)?;
-            let values = array_json(alloc, values.as_slice())?;
-            Ok(vec![in alloc;
-                word,
-                nat(*scene as u64),
-                nat(*spawner as u64),
-                nat(*net as u64),
-                syncs,
-                name,
-                arg,
-                values,
-            ]?)
+            text("spawn", line)?;
+            nat(*scene as u64, line)?;
+            nat(*spawner as u64, line)?;
+            nat(*net as u64, line)?;
+            list(alloc, syncs.as_slice(), line)?;
+            text(name.as_str(), line)?;
+            argument(arg, alloc, line)?;
+            values(told.as_slice(), alloc, line)
         }
         Plain::Despawn { net } => {
-            let word = string(alloc, "despawn")?;
-            Ok(vec![in alloc; word, nat(*net as u64)]?)
+            text("despawn", line)?;
+            nat(*net as u64, line)
         }
         Plain::Sync { tick, entries } => {
-            let word = string(alloc, "sync")?;
-            let entries = entries_json(alloc, entries.as_slice())?;
-            Ok(vec![in alloc; word, nat(*tick as u64), entries]?)
+            text("sync", line)?;
+            nat(*tick as u64, line)?;
+            list(alloc, entries.as_slice(), line)
         }
         Plain::Delta { entries } => {
-            let word = string(alloc, "delta")?;
-            let entries = deltas_json(alloc, entries.as_slice())?;
-            Ok(vec![in alloc; word, entries]?)
+            text("delta", line)?;
+            list(alloc, entries.as_slice(), line)
         }
     }
 }
 
-/// The cells of a packet of a link. The packet in a relay is one cell.
-fn message_cells(alloc: Global, m: &Message) -> Result<Vec<Value>, OutOfMemory>
-    ensures { IfOk result (λ cells. map view cells.items ≡ message_cells_of m.now) }
+/// The packet in a relay, as one cell.
+#[tactic(auto, using(crate::proofs::Told::list_told))]
+fn inner_packet(alloc: Global, inner: &Plain, line: &mut Writer) -> Result<(), OutOfMemory>
+    ensures { OnOk result (Adds line.old line.new (tokens_of (plain_array inner.now))) }
+{
+    begin_list(line)?;
+    plain_cells(alloc, inner, line)?;
+    end_list(line)
+}
+
+/// The cells of a packet of a link.
+fn message_cells(alloc: Global, m: &Message, line: &mut Writer) -> Result<(), OutOfMemory>
+    ensures { OnOk result (AddsCells line.old line.new (message_cells_of m.now)) }
 {
     match m {
-        Message::Plain(plain) => plain_cells(alloc, plain),
+        Message::Plain(plain) => plain_cells(alloc, plain, line),
         Message::Auth { peer, bytes } => {
-            let word = string(alloc, "auth")?;
-            let bytes = hexadecimal(alloc, bytes.as_slice())?;
-            Ok(vec![in alloc; word, int(*peer as i64), bytes]?)
+            text("auth", line)?;
+            int(*peer as i64, line)?;
+            hexadecimal(alloc, bytes.as_slice(), line)?;
+            Ok(())
         }
         Message::AddPeer { peer } => {
-            let word = string(alloc, "add")?;
-            Ok(vec![in alloc; word, int(*peer as i64)]?)
+            text("add", line)?;
+            int(*peer as i64, line)
         }
         Message::DelPeer { peer } => {
-            let word = string(alloc, "del")?;
-            Ok(vec![in alloc; word, int(*peer as i64)]?)
+            text("del", line)?;
+            int(*peer as i64, line)
         }
         Message::Relay { peer, inner } => {
-            let word = string(alloc, "relay")?;
-            let inner = Value::Array(plain_cells(alloc, inner)?);
-            Ok(vec![in alloc; word, int(*peer as i64), inner]?)
+            text("relay", line)?;
+            int(*peer as i64, line)?;
+            inner_packet(alloc, inner, line)
         }
     }
 }
@@ -193,9 +175,10 @@ fn message_cells(alloc: Global, m: &Message) -> Result<Vec<Value>, OutOfMemory>
 pub fn message_text(alloc: Global, m: &Message) -> Result<Bytes, OutOfMemory>
     ensures { IfOk result (λ b. b ≡ message_line m.now) }
 {
-    let cells = message_cells(alloc, m)?;
-    let mut out = Vec::new(alloc);
-    push_line(alloc, &mut out, cells)?;
+    let mut out = Vec::with_capacity(alloc, 128)?;
+    let mut line = begin(alloc, &mut out)?;
+    message_cells(alloc, m, &mut line)?;
+    end(line, &mut out)?;
     Ok(Bytes::from_vec(out))
 }
 
@@ -203,13 +186,11 @@ pub fn message_text(alloc: Global, m: &Message) -> Result<Bytes, OutOfMemory>
 pub fn bad_text(alloc: Global, bad: &Bad) -> Result<Bytes, OutOfMemory>
     ensures { IfOk result (λ b. b ≡ bad_line bad.now) }
 {
-    let word = string(alloc, "bad")?;
-    let why = string(alloc, why_name(bad.why))?;
-    let mut out = Vec::new(alloc);
-    push_line(
-        alloc,
-        &mut out,
-        vec![in alloc; word, nat(bad.at as u64), why]?,
-    )?;
+    let mut out = Vec::with_capacity(alloc, 128)?;
+    let mut line = begin(alloc, &mut out)?;
+    text("bad", &mut line)?;
+    nat(bad.at as u64, &mut line)?;
+    text(why_name(bad.why), &mut line)?;
+    end(line, &mut out)?;
     Ok(Bytes::from_vec(out))
 }

@@ -1,77 +1,66 @@
 //! The lines that tell the answer to an event.
 ghost use Rattle.std.specs.Prelude.{◌≡◌, ◌++◌, flat_map, IfOk, OnOk};
-ghost use Rattle.session_text.specs.Outcomes.{done_lines, fault_line, made_lines, outcome_lines, packet_line, raw_line, refused_line, run_line, skip_line, step_lines, world_no_line};
+ghost use Rattle.session_text.specs.Outcomes.{done_lines, fault_line, made_lines, number_line, outcome_lines, packet_line, raw_line, refused_line, run_line, skip_line, step_lines, world_no_line};
 
-use crate::json::{hexadecimal, int, nat, push_line, string};
+use crate::line::{begin, end, hexadecimal, int, nat, text};
 use crate::reasons::{
     class_name, fault_fields, fault_name, refusal_name, skip_name, world_fields, world_name,
 };
-use crate::values::values_json;
+use crate::values::values;
 use gd_variant::{Bytes, OutOfMemory};
 use scene_model::{Fault, Out, PeerStep, RawGot, Refusal, Run, Skip, WorldNo, WorldOutcome};
-use serde_json::Value;
 use std::alloc::Global;
 
 /// A call that ran at a peer.
 fn push_run(alloc: Global, out: &mut Vec<u8>, peer: i32, run: &Run) -> Result<(), OutOfMemory>
     ensures { OnOk result (out.new.items ≡ out.old.items ++ run_line peer run.now) }
 {
-    let word = string(alloc, "ran")?;
-    let path = string(alloc, run.path.as_str())?;
-    let method = string(alloc, run.method.as_str())?;
-    let args = Value::Array(values_json(run.args.as_slice(), alloc)?);
-    let cells = vec![in alloc;
-        word,
-        int(peer as i64),
-        int(run.sender as i64),
-        path,
-        method,
-        args,
-    ]?;
-    push_line(alloc, out, cells)
+    let mut line = begin(alloc, out)?;
+    text("ran", &mut line)?;
+    int(peer as i64, &mut line)?;
+    int(run.sender as i64, &mut line)?;
+    text(run.path.as_str(), &mut line)?;
+    text(run.method.as_str(), &mut line)?;
+    values(run.args.as_slice(), alloc, &mut line)?;
+    end(line, out)
 }
 
 /// Raw bytes that came to a peer.
 fn push_raw(alloc: Global, out: &mut Vec<u8>, peer: i32, raw: &RawGot) -> Result<(), OutOfMemory>
     ensures { OnOk result (out.new.items ≡ out.old.items ++ raw_line peer raw.now) }
 {
-    let word = string(alloc, "raw")?;
-    let bytes = hexadecimal(alloc, raw.bytes.as_slice())?;
-    let cells = vec![in alloc; word, int(peer as i64), int(raw.sender as i64), bytes]?;
-    push_line(alloc, out, cells)
+    let mut line = begin(alloc, out)?;
+    text("raw", &mut line)?;
+    int(peer as i64, &mut line)?;
+    int(raw.sender as i64, &mut line)?;
+    hexadecimal(alloc, raw.bytes.as_slice(), &mut line)?;
+    end(line, out)
 }
 
 /// An entry that changed nothing at a peer.
 fn push_skip(alloc: Global, out: &mut Vec<u8>, peer: i32, skip: &Skip) -> Result<(), OutOfMemory>
     ensures { OnOk result (out.new.items ≡ out.old.items ++ skip_line peer skip.now) }
 {
-    let word = string(alloc, "skip")?;
-    let why = string(alloc, skip_name(skip.why))?;
-    let cells = vec![in alloc;
-        word,
-        int(peer as i64),
-        int(skip.sender as i64),
-        nat(skip.id as u64),
-        why,
-    ]?;
-    push_line(alloc, out, cells)
+    let mut line = begin(alloc, out)?;
+    text("skip", &mut line)?;
+    int(peer as i64, &mut line)?;
+    int(skip.sender as i64, &mut line)?;
+    nat(skip.id as u64, &mut line)?;
+    text(skip_name(skip.why), &mut line)?;
+    end(line, out)
 }
 
 /// A packet that a peer put on a link.
 fn push_packet(alloc: Global, out: &mut Vec<u8>, peer: i32, packet: &Out) -> Result<(), OutOfMemory>
     ensures { OnOk result (out.new.items ≡ out.old.items ++ packet_line peer packet.now) }
 {
-    let word = string(alloc, "sent")?;
-    let class = string(alloc, class_name(packet.class))?;
-    let bytes = hexadecimal(alloc, packet.bytes.as_slice())?;
-    let cells = vec![in alloc;
-        word,
-        int(peer as i64),
-        int(packet.link as i64),
-        class,
-        bytes,
-    ]?;
-    push_line(alloc, out, cells)
+    let mut line = begin(alloc, out)?;
+    text("sent", &mut line)?;
+    int(peer as i64, &mut line)?;
+    int(packet.link as i64, &mut line)?;
+    text(class_name(packet.class), &mut line)?;
+    hexadecimal(alloc, packet.bytes.as_slice(), &mut line)?;
+    end(line, out)
 }
 
 /// The calls that ran at a peer.
@@ -155,11 +144,23 @@ fn push_made(alloc: Global, out: &mut Vec<u8>, made: Option<i32>) -> Result<(), 
 {
     match made {
         Some(peer) => {
-            let word = string(alloc, "new")?;
-            push_line(alloc, out, vec![in alloc; word, int(peer as i64)]?)
+            let mut line = begin(alloc, out)?;
+            text("new", &mut line)?;
+            int(peer as i64, &mut line)?;
+            end(line, out)
         }
         None => Ok(()),
     }
+}
+
+/// The number of an event that was done.
+fn push_number(alloc: Global, out: &mut Vec<u8>, n: u64) -> Result<(), OutOfMemory>
+    ensures { OnOk result (out.new.items ≡ out.old.items ++ number_line n) }
+{
+    let mut line = begin(alloc, out)?;
+    nat(n, &mut line)?;
+    text("done", &mut line)?;
+    end(line, out)
 }
 
 fn push_done(
@@ -171,8 +172,7 @@ fn push_done(
 ) -> Result<(), OutOfMemory>
     ensures { OnOk result (out.new.items ≡ out.old.items ++ done_lines n made steps.now) }
 {
-    let word = string(alloc, "done")?;
-    push_line(alloc, out, vec![in alloc; nat(n), word]?)?;
+    push_number(alloc, out, n)?;
     push_made(alloc, out, made)?;
     push_steps(alloc, out, steps)
 }
@@ -181,12 +181,12 @@ fn push_done(
 fn push_world_no(alloc: Global, out: &mut Vec<u8>, n: u64, no: &WorldNo) -> Result<(), OutOfMemory>
     ensures { OnOk result (out.new.items ≡ out.old.items ++ world_no_line n no.now) }
 {
-    let word = string(alloc, "refused")?;
-    let name = string(alloc, world_name(no))?;
-    let mut cells = vec![in alloc; nat(n), word, name]?;
-    let mut fields = world_fields(alloc, no)?;
-    cells.append(&mut fields)?;
-    push_line(alloc, out, cells)
+    let mut line = begin(alloc, out)?;
+    nat(n, &mut line)?;
+    text("refused", &mut line)?;
+    text(world_name(no), &mut line)?;
+    world_fields(no, &mut line)?;
+    end(line, out)
 }
 
 /// A refusal of a peer.
@@ -198,9 +198,11 @@ fn push_refusal(
 ) -> Result<(), OutOfMemory>
     ensures { OnOk result (out.new.items ≡ out.old.items ++ refused_line n refusal) }
 {
-    let word = string(alloc, "refused")?;
-    let name = string(alloc, refusal_name(refusal))?;
-    push_line(alloc, out, vec![in alloc; nat(n), word, name]?)
+    let mut line = begin(alloc, out)?;
+    nat(n, &mut line)?;
+    text("refused", &mut line)?;
+    text(refusal_name(refusal), &mut line)?;
+    end(line, out)
 }
 
 /// A fault at a peer.
@@ -213,12 +215,13 @@ fn push_fault(
 ) -> Result<(), OutOfMemory>
     ensures { OnOk result (out.new.items ≡ out.old.items ++ fault_line n peer fault.now) }
 {
-    let word = string(alloc, "fault")?;
-    let name = string(alloc, fault_name(fault))?;
-    let mut cells = vec![in alloc; nat(n), word, int(peer as i64), name]?;
-    let mut fields = fault_fields(alloc, fault)?;
-    cells.append(&mut fields)?;
-    push_line(alloc, out, cells)
+    let mut line = begin(alloc, out)?;
+    nat(n, &mut line)?;
+    text("fault", &mut line)?;
+    int(peer as i64, &mut line)?;
+    text(fault_name(fault), &mut line)?;
+    fault_fields(alloc, fault, &mut line)?;
+    end(line, out)
 }
 
 fn push_outcome(
@@ -241,7 +244,7 @@ fn push_outcome(
 pub fn outcome_text(alloc: Global, n: u64, outcome: &WorldOutcome) -> Result<Bytes, OutOfMemory>
     ensures { IfOk result (λ b. b ≡ outcome_lines n outcome.now) }
 {
-    let mut out = Vec::new(alloc);
+    let mut out = Vec::with_capacity(alloc, 128)?;
     push_outcome(alloc, &mut out, n, outcome)?;
     Ok(Bytes::from_vec(out))
 }

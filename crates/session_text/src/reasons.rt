@@ -1,12 +1,12 @@
 //! The names of what is refused and of faults.
-ghost use Rattle.std.specs.Prelude.{◌≡◌, map, IfOk};
-ghost use Rattle.serde_json.specs.View.{view};
+ghost use Rattle.std.specs.Prelude.{◌≡◌, OnOk};
+ghost use Rattle.session_text.specs.Tokens.{AddsCells};
 ghost use Rattle.session_text.specs.Reasons.{byte_name, class_name as class_name_of, fault_fields as fault_fields_of, fault_name as fault_name_of, refusal_name as refusal_name_of, skip_name as skip_name_of, world_fields as world_fields_of, world_name as world_name_of};
 
-use crate::json::{hexadecimal, int, nat, string};
+use crate::line::{hexadecimal, int, nat, text};
 use gd_variant::{OutOfMemory, Why};
+use json::Writer;
 use scene_model::{Class, Fault, Refusal, SkipWhy, WorldNo};
-use serde_json::Value;
 use std::alloc::Global;
 
 /// The name of a packet's transfer mode.
@@ -80,12 +80,15 @@ pub fn world_name(no: &WorldNo) -> &'static str
 }
 
 /// What stands behind the name of a refusal of the session.
-pub fn world_fields(alloc: Global, no: &WorldNo) -> Result<Vec<Value>, OutOfMemory>
-    ensures { IfOk result (λ vs. map view vs.items ≡ world_fields_of no.now) }
+pub fn world_fields(no: &WorldNo, line: &mut Writer) -> Result<(), OutOfMemory>
+    ensures { OnOk result (AddsCells line.old line.new (world_fields_of no.now)) }
 {
     match no {
-        WorldNo::Window { newest, tick } => Ok(vec![in alloc; nat(*newest), nat(*tick)]?),
-        _ => Ok(Vec::new(alloc)),
+        WorldNo::Window { newest, tick } => {
+            nat(*newest, line)?;
+            nat(*tick, line)
+        }
+        _ => Ok(()),
     }
 }
 
@@ -153,25 +156,26 @@ pub fn fault_name(fault: &Fault) -> &'static str
 }
 
 /// What stands behind the name of a fault.
-pub fn fault_fields(alloc: Global, fault: &Fault) -> Result<Vec<Value>, OutOfMemory>
-    ensures { IfOk result (λ vs. map view vs.items ≡ fault_fields_of fault.now) }
+pub fn fault_fields(alloc: Global, fault: &Fault, line: &mut Writer) -> Result<(), OutOfMemory>
+    ensures { OnOk result (AddsCells line.old line.new (fault_fields_of fault.now)) }
 {
     match fault {
         Fault::Malformed { at, why } => {
-            Ok(vec![in alloc; nat(*at as u64), string(alloc, why_name(*why))?]?)
+            nat(*at as u64, line)?;
+            text(why_name(*why), line)
         }
-        Fault::UnknownPeer { peer } => Ok(vec![in alloc; int(*peer as i64)]?),
-        Fault::BadPeer { peer } => Ok(vec![in alloc; int(*peer as i64)]?),
-        Fault::GonePeer { peer } => Ok(vec![in alloc; int(*peer as i64)]?),
-        Fault::NoName { id } => Ok(vec![in alloc; nat(*id as u64)]?),
-        Fault::IdRange { id } => Ok(vec![in alloc; nat(*id as u64)]?),
-        Fault::NameDiffers { kept } => Ok(vec![in alloc; string(alloc, kept.as_str())?]?),
-        Fault::MethodsDiffer { kept } => Ok(vec![in alloc; hexadecimal(alloc, kept.as_slice())?]?),
-        Fault::Unconfirmed { id } => Ok(vec![in alloc; nat(*id as u64)]?),
-        Fault::KnownNet { id } => Ok(vec![in alloc; nat(*id as u64)]?),
-        Fault::NoNet { net } => Ok(vec![in alloc; nat(*net as u64)]?),
-        Fault::NoSync { id } => Ok(vec![in alloc; nat(*id as u64)]?),
-        Fault::BadMask { mask } => Ok(vec![in alloc; nat(*mask)]?),
-        _ => Ok(Vec::new(alloc)),
+        Fault::UnknownPeer { peer } => int(*peer as i64, line),
+        Fault::BadPeer { peer } => int(*peer as i64, line),
+        Fault::GonePeer { peer } => int(*peer as i64, line),
+        Fault::NoName { id } => nat(*id as u64, line),
+        Fault::IdRange { id } => nat(*id as u64, line),
+        Fault::NameDiffers { kept } => text(kept.as_str(), line),
+        Fault::MethodsDiffer { kept } => hexadecimal(alloc, kept.as_slice(), line),
+        Fault::Unconfirmed { id } => nat(*id as u64, line),
+        Fault::KnownNet { id } => nat(*id as u64, line),
+        Fault::NoNet { net } => nat(*net as u64, line),
+        Fault::NoSync { id } => nat(*id as u64, line),
+        Fault::BadMask { mask } => nat(*mask, line),
+        _ => Ok(()),
     }
 }

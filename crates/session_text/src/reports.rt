@@ -1,11 +1,10 @@
 //! The lines of a report.
 ghost use Rattle.std.specs.Prelude.{◌≡◌, ◌++◌, flat_map, IfOk, OnOk};
-ghost use Rattle.serde_json.specs.View.{view};
 ghost use Rattle.session_text.specs.Reports.{node_line, peer_line, report_lines, row_lines, value_line};
-ghost use Rattle.session_text.specs.Values.{ints_of};
 
-use crate::json::{int, nat, push_line, string};
-use crate::values::{ints32, value_json};
+use crate::cells::list;
+use crate::line::{begin, end, int, nat, text};
+use crate::values::value;
 use gd_variant::{Bytes, OutOfMemory};
 use scene_model::{Prop, Report, Row};
 use std::alloc::Global;
@@ -14,9 +13,11 @@ use std::alloc::Global;
 fn push_peers(alloc: Global, out: &mut Vec<u8>, peer: i32, peers: &[i32]) -> Result<(), OutOfMemory>
     ensures { OnOk result (out.new.items ≡ out.old.items ++ peer_line peer peers.now) }
 {
-    let word = string(alloc, "peer")?;
-    let up = ints32(alloc, peers)?;
-    push_line(alloc, out, vec![in alloc; word, int(peer as i64), up]?)
+    let mut line = begin(alloc, out)?;
+    text("peer", &mut line)?;
+    int(peer as i64, &mut line)?;
+    list(alloc, peers, &mut line)?;
+    end(line, out)
 }
 
 /// A property of a node.
@@ -29,31 +30,26 @@ fn push_value(
 ) -> Result<(), OutOfMemory>
     ensures { OnOk result (out.new.items ≡ out.old.items ++ value_line peer path.now prop.now) }
 {
-    let word = string(alloc, "value")?;
-    let path = string(alloc, path)?;
-    let name = string(alloc, prop.name.as_str())?;
-    let value = value_json(&prop.value, alloc)?;
-    push_line(
-        alloc,
-        out,
-        vec![in alloc; word, int(peer as i64), path, name, value]?,
-    )
+    let mut line = begin(alloc, out)?;
+    text("value", &mut line)?;
+    int(peer as i64, &mut line)?;
+    text(path, &mut line)?;
+    text(prop.name.as_str(), &mut line)?;
+    value(&prop.value, alloc, &mut line)?;
+    end(line, out)
 }
 
 /// A node.
 fn push_node(alloc: Global, out: &mut Vec<u8>, peer: i32, row: &Row) -> Result<(), OutOfMemory>
     ensures { OnOk result (out.new.items ≡ out.old.items ++ node_line peer row.now) }
 {
-    let word = string(alloc, "node")?;
-    let path = string(alloc, row.path.as_str())?;
-    let cells = vec![in alloc;
-        word,
-        int(peer as i64),
-        int(row.auth as i64),
-        nat(row.num as u64),
-        path,
-    ]?;
-    push_line(alloc, out, cells)
+    let mut line = begin(alloc, out)?;
+    text("node", &mut line)?;
+    int(peer as i64, &mut line)?;
+    int(row.auth as i64, &mut line)?;
+    nat(row.num as u64, &mut line)?;
+    text(row.path.as_str(), &mut line)?;
+    end(line, out)
 }
 
 /// The properties of a node.

@@ -1,69 +1,98 @@
 //! Values in lines.
-ghost use Rattle.std.specs.Prelude.{◌≡◌, map, IfOk};
-ghost use Rattle.serde_json.specs.View.{view};
-ghost use Rattle.session_text.specs.Values.{ints_of, opaque_of, pair_of, path_of, run_name, texts_of, value_of, vector_of};
+ghost use Rattle.std.specs.Prelude.{◌≡◌, codes, flat_map, OnOk};
+ghost use Rattle.serde_json.specs.Data.{array, item, no_items, string as string_of};
+ghost use Rattle.session_text.specs.Json.{hex_of, tagged_of};
+ghost use Rattle.session_text.specs.Tokens.{Adds, tokens_of};
+ghost use Rattle.session_text.specs.Values.{ints_of, opaque_of, opaque_parts, pair_of, pairs_of, path_of, path_parts, run_name, texts_of, value_of, values_of, vector_of, vector_parts};
 
-use crate::json::{hexadecimal, int, nat, string, tagged};
-use gd_variant::{IntsOf, NodePath, Opaque, OutOfMemory, Pair, Text, Variant};
-use serde_json::Value;
+use crate::cells::list;
+use crate::line::{
+    begin_list, begin_tagged, end_list, end_tagged, hexadecimal, int, nat, nothing, text, truth,
+};
+use gd_variant::{
+    Bytes, IntRun, IntsOf, NodePath, Opaque, OutOfMemory, Pair, Text, TextRun, Variant,
+};
+use json::Writer;
 use std::alloc::Global;
 
-/// An array of texts.
-fn texts(alloc: Global, texts: &[Text]) -> Result<Value, OutOfMemory>
-    ensures { IfOk result (λ v. view v ≡ texts_of texts.now) }
+#[tactic(auto, using(crate::proofs::Told::tagged_told))]
+fn name(name: &Text, line: &mut Writer) -> Result<(), OutOfMemory>
+    ensures { OnOk result (Adds line.old line.new (tokens_of (tagged_of (codes "name") (string_of name.now)))) }
 {
-    let mut all = Vec::new(alloc);
-    for text in texts {
-        all.push(string(alloc, text.as_str())?)?;
-    }
-    Ok(Value::Array(all))
+    begin_tagged("name", line)?;
+    text(name.as_str(), line)?;
+    end_tagged(line)
 }
 
-/// An array of numbers of 32 bits.
-pub fn ints32(alloc: Global, numbers: &[i32]) -> Result<Value, OutOfMemory>
-    ensures { IfOk result (λ v. view v ≡ ints_of numbers.now) }
+/// Whether a path is absolute, its names, and the names of properties.
+#[tactic(auto, using(crate::proofs::Told::three_told))]
+fn parts_of_path(alloc: Global, path: &NodePath, line: &mut Writer) -> Result<(), OutOfMemory>
+    ensures { OnOk result (Adds line.old line.new (tokens_of (path_parts path.now.absolute path.now.names path.now.subnames))) }
 {
-    let mut all = Vec::new(alloc);
-    for n in numbers {
-        all.push(int(*n as i64))?;
-    }
-    Ok(Value::Array(all))
+    begin_list(line)?;
+    truth(path.absolute, line)?;
+    list(alloc, path.names.as_slice(), line)?;
+    list(alloc, path.subnames.as_slice(), line)?;
+    end_list(line)
 }
 
-/// An array of numbers of 64 bits.
-fn ints64(alloc: Global, numbers: &[i64]) -> Result<Value, OutOfMemory>
-    ensures { IfOk result (λ v. view v ≡ ints_of numbers.now) }
+#[tactic(auto, using(crate::proofs::Told::tagged_told))]
+fn path(alloc: Global, path: &NodePath, line: &mut Writer) -> Result<(), OutOfMemory>
+    ensures { OnOk result (Adds line.old line.new (tokens_of (path_of path.now.absolute path.now.names path.now.subnames))) }
 {
-    let mut all = Vec::new(alloc);
-    for n in numbers {
-        all.push(int(*n))?;
-    }
-    Ok(Value::Array(all))
+    begin_tagged("path", line)?;
+    parts_of_path(alloc, path, line)?;
+    end_tagged(line)
 }
 
-fn path(alloc: Global, path: &NodePath) -> Result<Value, OutOfMemory>
-    ensures { IfOk result (λ v. view v ≡ path_of path.now.absolute path.now.names path.now.subnames) }
+/// The code of an integer vector and its numbers.
+#[tactic(auto, using(crate::proofs::Told::two_told))]
+fn parts_of_vector(alloc: Global, ints: &IntsOf, line: &mut Writer) -> Result<(), OutOfMemory>
+    ensures { OnOk result (Adds line.old line.new (tokens_of (vector_parts ints.now.code ints.now.items))) }
 {
-    let names = texts(alloc, path.names.as_slice())?;
-    let subnames = texts(alloc, path.subnames.as_slice())?;
-    let parts = vec![in alloc; Value::Bool(path.absolute), names, subnames]?;
-    tagged(alloc, "path", Value::Array(parts))
+    begin_list(line)?;
+    nat(ints.code as u64, line)?;
+    list(alloc, ints.items.as_slice(), line)?;
+    end_list(line)
 }
 
-fn vector(alloc: Global, ints: &IntsOf) -> Result<Value, OutOfMemory>
-    ensures { IfOk result (λ v. view v ≡ vector_of ints.now.code ints.now.items) }
+#[tactic(auto, using(crate::proofs::Told::tagged_told))]
+fn vector(alloc: Global, ints: &IntsOf, line: &mut Writer) -> Result<(), OutOfMemory>
+    ensures { OnOk result (Adds line.old line.new (tokens_of (vector_of ints.now.code ints.now.items))) }
 {
-    let items = ints32(alloc, ints.items.as_slice())?;
-    let parts = vec![in alloc; nat(ints.code as u64), items]?;
-    tagged(alloc, "ints", Value::Array(parts))
+    begin_tagged("ints", line)?;
+    parts_of_vector(alloc, ints, line)?;
+    end_tagged(line)
 }
 
-fn opaque(alloc: Global, opaque: &Opaque) -> Result<Value, OutOfMemory>
-    ensures { IfOk result (λ v. view v ≡ opaque_of opaque.now.code opaque.now.wide opaque.now.bytes) }
+/// The code of a value of floats, whether they have eight bytes, and the bytes.
+#[tactic(auto, using(crate::proofs::Told::three_told))]
+fn parts_of_opaque(alloc: Global, opaque: &Opaque, line: &mut Writer) -> Result<(), OutOfMemory>
+    ensures { OnOk result (Adds line.old line.new (tokens_of (opaque_parts opaque.now.code opaque.now.wide opaque.now.bytes))) }
 {
-    let bytes = hexadecimal(alloc, opaque.bytes.as_slice())?;
-    let parts = vec![in alloc; nat(opaque.code as u64), Value::Bool(opaque.wide), bytes]?;
-    tagged(alloc, "raw", Value::Array(parts))
+    begin_list(line)?;
+    nat(opaque.code as u64, line)?;
+    truth(opaque.wide, line)?;
+    hexadecimal(alloc, opaque.bytes.as_slice(), line)?;
+    end_list(line)
+}
+
+#[tactic(auto, using(crate::proofs::Told::tagged_told))]
+fn opaque(alloc: Global, opaque: &Opaque, line: &mut Writer) -> Result<(), OutOfMemory>
+    ensures { OnOk result (Adds line.old line.new (tokens_of (opaque_of opaque.now.code opaque.now.wide opaque.now.bytes))) }
+{
+    begin_tagged("raw", line)?;
+    parts_of_opaque(alloc, opaque, line)?;
+    end_tagged(line)
+}
+
+#[tactic(auto, using(crate::proofs::Told::tagged_told))]
+fn packed_bytes(alloc: Global, bytes: &Bytes, line: &mut Writer) -> Result<(), OutOfMemory>
+    ensures { OnOk result (Adds line.old line.new (tokens_of (tagged_of (codes "bytes") (hex_of bytes.now)))) }
+{
+    begin_tagged("bytes", line)?;
+    hexadecimal(alloc, bytes.as_slice(), line)?;
+    end_tagged(line)
 }
 
 /// The key of an array of numbers.
@@ -73,65 +102,106 @@ fn run_key(wide: bool) -> &'static str
     if wide { "i64" } else { "i32" }
 }
 
-/// The pairs of a dictionary, each an array of key and value.
-#[cycle(writing)]
-fn pairs(pairs: &[Pair], alloc: Global) -> Result<Vec<Value>, OutOfMemory>
-    ensures { IfOk result (λ vs. map view vs.items ≡ map pair_of pairs.now) }
+#[tactic(auto, using(crate::proofs::Told::tagged_told))]
+fn packed_ints(alloc: Global, run: &IntRun, line: &mut Writer) -> Result<(), OutOfMemory>
+    ensures { OnOk result (Adds line.old line.new (tokens_of (tagged_of (run_name run.now.wide) (ints_of run.now.items)))) }
 {
-    let mut all = Vec::new(alloc);
-    for pair in pairs {
-        let key = value_json(&pair.key, alloc)?;
-        let value = value_json(&pair.value, alloc)?;
-        all.push(Value::Array(vec![in alloc; key, value]?))?;
-    }
-    Ok(all)
+    begin_tagged(run_key(run.wide), line)?;
+    list(alloc, run.items.as_slice(), line)?;
+    end_tagged(line)
 }
 
-/// The values of a list.
-#[cycle(writing)]
-pub fn values_json(values: &[Variant], alloc: Global) -> Result<Vec<Value>, OutOfMemory>
-    ensures { IfOk result (λ vs. map view vs.items ≡ map value_of values.now) }
+#[tactic(auto, using(crate::proofs::Told::tagged_told))]
+fn packed_texts(alloc: Global, texts: &TextRun, line: &mut Writer) -> Result<(), OutOfMemory>
+    ensures { OnOk result (Adds line.old line.new (tokens_of (tagged_of (codes "texts") (texts_of texts.now)))) }
 {
-    let mut all = Vec::new(alloc);
-    for value in values {
-        all.push(value_json(value, alloc)?)?;
-    }
-    Ok(all)
+    begin_tagged("texts", line)?;
+    list(alloc, texts.as_slice(), line)?;
+    end_tagged(line)
 }
 
-/// A value as it is written in a line.
+/// A key and its value.
 #[cycle(writing)]
-pub fn value_json(value: &Variant, alloc: Global) -> Result<Value, OutOfMemory>
-    ensures { IfOk result (λ v. view v ≡ value_of value.now) }
+#[tactic(auto, using(crate::proofs::Told::two_told))]
+fn pair(pair: &Pair, alloc: Global, line: &mut Writer) -> Result<(), OutOfMemory>
+    ensures { OnOk result (Adds line.old line.new (tokens_of (pair_of pair.now))) }
+{
+    begin_list(line)?;
+    value(&pair.key, alloc, line)?;
+    value(&pair.value, alloc, line)?;
+    end_list(line)
+}
+
+/// The pairs of a dictionary, one behind the other.
+#[cycle(writing)]
+fn each_pair(pairs: &[Pair], alloc: Global, line: &mut Writer) -> Result<(), OutOfMemory>
+    ensures { OnOk result (Adds line.old line.new (flat_map (λ p. tokens_of (pair_of p)) pairs.now)) }
+{
+    for entry in pairs {
+        pair(entry, alloc, line)?;
+    }
+    Ok(())
+}
+
+/// An array of pairs.
+#[cycle(writing)]
+fn pairs(pairs: &[Pair], alloc: Global, line: &mut Writer) -> Result<(), OutOfMemory>
+    ensures { OnOk result (Adds line.old line.new (tokens_of (pairs_of pairs.now))) }
+{
+    begin_list(line)?;
+    each_pair(pairs, alloc, line)?;
+    end_list(line)
+}
+
+#[cycle(writing)]
+#[tactic(auto, using(crate::proofs::Told::tagged_told))]
+fn dictionary(entries: &[Pair], alloc: Global, line: &mut Writer) -> Result<(), OutOfMemory>
+    ensures { OnOk result (Adds line.old line.new (tokens_of (tagged_of (codes "dict") (pairs_of entries.now)))) }
+{
+    begin_tagged("dict", line)?;
+    pairs(entries, alloc, line)?;
+    end_tagged(line)
+}
+
+/// Values, one behind the other.
+#[cycle(writing)]
+fn each_value(values: &[Variant], alloc: Global, line: &mut Writer) -> Result<(), OutOfMemory>
+    ensures { OnOk result (Adds line.old line.new (flat_map (λ v. tokens_of (value_of v)) values.now)) }
+{
+    for item in values {
+        value(item, alloc, line)?;
+    }
+    Ok(())
+}
+
+/// An array of values.
+#[cycle(writing)]
+pub fn values(values: &[Variant], alloc: Global, line: &mut Writer) -> Result<(), OutOfMemory>
+    ensures { OnOk result (Adds line.old line.new (tokens_of (values_of values.now))) }
+{
+    begin_list(line)?;
+    each_value(values, alloc, line)?;
+    end_list(line)
+}
+
+/// A value as it stands in a line.
+#[cycle(writing)]
+pub fn value(value: &Variant, alloc: Global, line: &mut Writer) -> Result<(), OutOfMemory>
+    ensures { OnOk result (Adds line.old line.new (tokens_of (value_of value.now))) }
 {
     match value {
-        Variant::Nil => Ok(Value::Null),
-        Variant::Bool(b) => Ok(Value::Bool(*b)),
-        Variant::Int(n) => Ok(int(*n)),
-        Variant::Text(text) => string(alloc, text.as_str()),
-        Variant::Name(text) => {
-            let name = string(alloc, text.as_str())?;
-            tagged(alloc, "name", name)
-        }
-        Variant::Path(parts) => path(alloc, parts),
-        Variant::Ints(parts) => vector(alloc, parts),
-        Variant::Opaque(parts) => opaque(alloc, parts),
-        Variant::Dict(entries) => {
-            let entries = pairs(entries.as_slice(), alloc)?;
-            Ok(tagged(alloc, "dict", Value::Array(entries))?)
-        }
-        Variant::Array(items) => Ok(Value::Array(values_json(items.as_slice(), alloc)?)),
-        Variant::PackedBytes(bytes) => {
-            let bytes = hexadecimal(alloc, bytes.as_slice())?;
-            tagged(alloc, "bytes", bytes)
-        }
-        Variant::PackedInts(run) => {
-            let items = ints64(alloc, run.items.as_slice())?;
-            tagged(alloc, run_key(run.wide), items)
-        }
-        Variant::PackedTexts(parts) => {
-            let items = texts(alloc, parts.as_slice())?;
-            tagged(alloc, "texts", items)
-        }
+        Variant::Nil => nothing(line),
+        Variant::Bool(b) => truth(*b, line),
+        Variant::Int(n) => int(*n, line),
+        Variant::Text(words) => text(words.as_str(), line),
+        Variant::Name(words) => name(words, line),
+        Variant::Path(parts) => path(alloc, parts, line),
+        Variant::Ints(parts) => vector(alloc, parts, line),
+        Variant::Opaque(parts) => opaque(alloc, parts, line),
+        Variant::Dict(entries) => dictionary(entries.as_slice(), alloc, line),
+        Variant::Array(items) => values(items.as_slice(), alloc, line),
+        Variant::PackedBytes(bytes) => packed_bytes(alloc, bytes, line),
+        Variant::PackedInts(run) => packed_ints(alloc, run, line),
+        Variant::PackedTexts(texts) => packed_texts(alloc, texts, line),
     }
 }

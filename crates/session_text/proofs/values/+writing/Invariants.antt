@@ -1,10 +1,10 @@
-use Rattle.std.proofs.Common.{◌≡◌, map, take}
-use Rattle.serde_json.specs.View.{view}
+use Rattle.std.proofs.Common.{flat_map, take}
+use Rattle.session_text.specs.Tokens.{Adds, tokens_of}
 use Rattle.session_text.specs.Values.{pair_of, value_of}
 use Rattle.session_text.proofs.values.+writing.Given as goal
 
-abbrev pub invariant-pairs-loop-pair : goal.invariant-pairs-loop-pair
-invariant-pairs-loop-pair l = map view l.all.items ≡ map pair_of (take l.pair-index l.pairs)
+abbrev pub invariant-each_pair-loop-entry : goal.invariant-each_pair-loop-entry
+invariant-each_pair-loop-entry l = Adds l.fn.line l.line (flat_map (λ p. tokens_of (pair_of p)) (take l.entry-index l.pairs))
 
-abbrev pub invariant-values_json-loop-value : goal.invariant-values_json-loop-value
-invariant-values_json-loop-value l = map view l.all.items ≡ map value_of (take l.value-index l.values)
+abbrev pub invariant-each_value-loop-item : goal.invariant-each_value-loop-item
+invariant-each_value-loop-item l = Adds l.fn.line l.line (flat_map (λ v. tokens_of (value_of v)) (take l.item-index l.values))
