@@ -22,7 +22,7 @@ use Rattle.peer_model.specs.Rows.{OwnRow, own_rows, next_number, spawned_path, s
 use Rattle.peer_model.specs.Values.{scene_made, props_in}
 use Rattle.peer_model.specs.Updates.{Live, live_at}
 use Rattle.peer_model.specs.View.{tree_of, view}
-use Rattle.peer_model.specs.Refusals.{most_rows, most_net_id, most_clients, owns, may_make, setting_refusals, argument_fits, limit_reached, spawn_refusal, set_refusal, up_refusal, down_refusal}
+use Rattle.peer_model.specs.Refusals.{most_rows, most_net_id, most_clients, owns, may_make, setting_refusals, argument_fits, limit_reached, last_number, spawn_refused, spawn_refusal, set_refusal, up_refusal, down_refusal}
 use Rattle.peer_model.specs.Faults.{link_fault, spawn_fault}
 use Rattle.peer_model.proofs.Links.{was_up_come}
 use Rattle.peer_laws.specs.Facts.{rows_under}
@@ -127,25 +127,11 @@ limit_is : (who : Who) (es : List Heard) (spawner : List ℕ) (d : Option Spawne
 limit_is who es spawner None = refl
 limit_is who es spawner (Some d) = ap (λ n. nat_lt 0 d.limit && nat_le d.limit n) (spawner_rows who spawner (own_rows who es))
 
--- why a spawn is refused, by whether its spawner is full and how many rows there are
-abbrev spawn_rows : Who → List Live → Bool → ℕ → ℕ → SpawnOp → Option Refusal
-spawn_rows who nodes full count next o = first_of (
-    when (is_none (live_at nodes o.spawner)) NoNode
-    ∷ when (is_none (spawner_at who.scene o.spawner)) NoSpawner
-    ∷ when (not (owns who (live_at nodes o.spawner))) NotAuthority
-    ∷ when (not (some_is (may_make o) (spawner_at who.scene o.spawner))) NoScene
-    ∷ when (not (is_name o.name)) BadName
-    ∷ when (is_some (live_at nodes (spawned_path who o))) NameTaken
-    ∷ when full SpawnLimit
-    ∷ when (nat_le most_rows count) NodesFull
-    ∷ when (nat_lt most_net_id (next + length (syncs_at who.scene (spawned_scene who o)))) NetIdsFull
-    ∷ flat_map (setting_refusals (props_in (scene_made who o))) o.sets ++ when (not (argument_fits o.arg)) ValueTooLong ∷ [])
-
 pub spawn_judged_is : (k : Kept) (es : List Heard) → HasParts k es → (o : SpawnOp) → spawn_judged k.who k.nodes k.track.rows k.track.next o ≡ spawn_refusal k.who es o
 spawn_judged_is k es h o =
     ap₂ (λ ns rs. spawn_judged k.who ns rs k.track.next o) h.nodes h.rows
     ∙ ap (λ n. spawn_judged k.who (tree_of k.who es) (map (kept_row k.who) (own_rows k.who es)) n o) h.next
-    ∙ ap₂ (λ full count. spawn_rows k.who (tree_of k.who es) full count (next_number k.who es) o) (limit_is k.who es o.spawner (spawner_at k.who.scene o.spawner)) (length-map (own_rows k.who es) (kept_row k.who))
+    ∙ ap₂ (λ full count. spawn_refused k.who (live_at (tree_of k.who es)) full count (last_number k.who es o) o) (limit_is k.who es o.spawner (spawner_at k.who.scene o.spawner)) (length-map (own_rows k.who es) (kept_row k.who))
 
 -- assignments
 
