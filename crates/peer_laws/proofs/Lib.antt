@@ -27,6 +27,7 @@ pub mod TreeSets
 pub mod TreeSpawns
 pub mod TreeStart
 pub mod Ups
+pub mod Passing
 pub mod ValuesFit
 pub mod Views
 pub mod Ways
