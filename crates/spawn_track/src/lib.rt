@@ -1,5 +1,5 @@
-//! Spawned nodes at both ends: what an operation of this peer makes and why it is refused, what a
-//! received spawn makes and why it is a fault.
+//! Spawned nodes at both ends: the rows of this peer and what an operation makes of them, why it is
+//! refused, what a received spawn makes and why it is a fault.
 #![tactic(auto)]
 
 mod lookup;
@@ -8,12 +8,10 @@ mod placing;
 mod receiving;
 mod shown;
 mod spawning;
-mod texts;
+mod track;
 mod values;
 
 pub use lookup::{is_open, path_id, syncs_of};
-pub use making::add_row;
 pub use placing::put_value;
-pub use receiving::{judge_shown, put_shown};
-pub use spawning::{judge_spawn, site_of};
+pub use track::Track;
 pub use values::{fits, has_prop, owns};

@@ -1,16 +1,20 @@
 //! Spawns of this peer: their rows and their nodes.
-ghost use Rattle.std.specs.Prelude.{◌≡◌, ◌<◌, ◌≤◌, ◌+◌, true, IfOk, OnOk, length};
+ghost use Rattle.std.specs.Prelude.{◌≡◌, ◌<◌, ◌≤◌, ◌+◌, ◌++◌, [], ◌∷◌, true, is_some, IfOk, OnOk, length};
 ghost use Rattle.std.specs.List.{list_all};
 ghost use Rattle.gd_variant.specs.Words.{or_else};
 ghost use Rattle.peer_model.specs.Rows.{syncs_at, count_from};
-ghost use Rattle.peer_steps.specs.Sites.{MaySpawn, who_at, own_made, with_made, site_row, has_short, with_settings};
+ghost use Rattle.gd_variant.specs.Sound.{is_sound};
+ghost use Rattle.scene_model.specs.declared.scene.Prop.{Prop as PropOf};
+ghost use Rattle.peer_steps.specs.Fits.{Fits};
+ghost use Rattle.peer_steps.specs.Sites.{MaySpawn, who_at, own_made, with_made, after_made, site_row, has_short, with_settings};
+ghost use Rattle.peer_steps.specs.Track.{own_spawn};
 
 use crate::placing::{put_node, put_value};
-use crate::spawning::syncs_at_place;
+use crate::spawning::{judge_spawn, site_of, syncs_at_place};
 use gd_variant::{IdList, OutOfMemory, Text};
 use headless_tree::Tree;
 use peer_steps::{Site, SpawnedRow};
-use scene_model::{Prop, Scene, SpawnOp, SyncDef};
+use scene_model::{Prop, Refusal, Scene, SpawnOp, SyncDef};
 use sqlite_items::Items;
 use std::alloc::Global;
 
@@ -75,7 +79,7 @@ fn make_row(
 }
 
 /// Makes the row of a spawn that isn't refused, and its node with its settings.
-pub fn add_row(
+fn add_row(
     alloc: Global,
     id: &i32,
     tree: &mut Tree,
@@ -100,4 +104,50 @@ pub fn add_row(
     )?;
     put_sets(alloc, tree, &site.path, op.sets.as_slice())?;
     Ok(row)
+}
+
+/// Makes a spawn that isn't refused: its row, its node and the next number.
+fn make_spawn(
+    alloc: Global,
+    me: &i32,
+    tree: &mut Tree,
+    next: &mut u32,
+    rows: &mut Vec<SpawnedRow>,
+    op: &SpawnOp,
+    site: &Site,
+) -> Result<(), OutOfMemory>
+    requires { MaySpawn (who_at me.now tree.old.scene) tree.old.nodes next.old op.now site.now }
+    ensures tree { OnOk result (tree.new ≡ record tree.old { nodes = with_made me.now tree.old.scene next.old op.now tree.old.nodes }) }
+    ensures next { OnOk result (next.new ≡ after_made me.now tree.old.scene next.old op.now) }
+    ensures rows { OnOk result (rows.new.items ≡ rows.old.items ++ own_made me.now tree.old.scene next.old op.now ∷ []) }
+{
+    let num = *next;
+    let row = add_row(alloc, me, tree, num, op, site)?;
+    *next = num + 1 + row.ids.len() as u32;
+    rows.push(row)?;
+    Ok(())
+}
+
+/// Makes a spawn by scene, or says why it is refused.
+pub fn spawn_row(
+    alloc: Global,
+    me: &i32,
+    tree: &mut Tree,
+    next: &mut u32,
+    rows: &mut Vec<SpawnedRow>,
+    op: &SpawnOp,
+) -> Result<Option<Refusal>, OutOfMemory>
+    requires fits { Fits me.now tree.old (record { next = next.old; rows = rows.old.items }) }
+    requires scene { is_some op.now.scene ≡ true }
+    requires sound { list_all (λ (p : PropOf). is_sound p.value) op.now.sets ≡ true }
+    ensures { IfOk result (λ r. record { refused = r; track = record { next = next.new; rows = rows.new.items }; tree = tree.new } ≡ own_spawn me.now op.now (record { next = next.old; rows = rows.old.items }) tree.old) }
+{
+    let site = site_of(alloc, tree, op)?;
+    match judge_spawn(me, tree, rows, *next, op, &site) {
+        Some(refusal) => Ok(Some(refusal)),
+        None => {
+            make_spawn(alloc, me, tree, next, rows, op, &site)?;
+            Ok(None)
+        }
+    }
 }

@@ -7,6 +7,7 @@ ghost use Rattle.peer_model.specs.Updates.{live_at};
 ghost use Rattle.peer_model.specs.View.{fits as fits_of};
 ghost use Rattle.headless_tree.specs.Nodes.{row_before, spawned_node, assigned};
 ghost use Rattle.headless_tree.specs.Numbers.{are_new};
+ghost use Rattle.peer_steps.specs.Track.{tree_without};
 
 use gd_variant::{IdList, OutOfMemory, Text, Variant};
 use headless_tree::{Tree, TreeNo};
@@ -31,6 +32,7 @@ pub fn put_node(
     ensures err { OnErr result (tree.new ≡ tree.old) }
 {
     let auth = *auth;
+    tree.holds();
     match tree.insert(alloc, under.as_str(), name.as_str(), auth, num, ids, place) {
         Ok(()) => Ok(()),
         Err(TreeNo::OutOfMemory) => Err(OutOfMemory),
@@ -50,4 +52,12 @@ pub fn put_value(tree: &mut Tree, path: &Text, prop: &Text, value: Variant)
         Ok(()) => {}
         Err(_) => {}
     }
+}
+
+/// Takes the spawned nodes of an authority out of the tree.
+pub fn drop_rows(tree: &mut Tree, auth: &i32)
+    ensures { tree.new ≡ tree_without auth.now tree.old }
+{
+    let auth = *auth;
+    tree.remove_under(auth);
 }

@@ -8,8 +8,11 @@ ghost use Rattle.peer_model.specs.View.{fits as fits_of};
 ghost use Rattle.peer_model.specs.Rows.{syncs_at};
 ghost use Rattle.peer_model.specs.Refusals.{argument_fits};
 ghost use Rattle.headless_tree.specs.Nodes.{row_before};
+ghost use Rattle.peer_laws.specs.Facts.{rows_under};
+ghost use Rattle.peer_steps.specs.Track.{shown_spawn};
+ghost use Rattle.spawn_track.specs.Judging.{IsJudged};
 ghost use Rattle.peer_steps.specs.Spawns.{shown_judged};
-ghost use Rattle.peer_steps.specs.Arrivals.{IsMaking, judged_beside, place_judged, assigned_all, argument_assigned};
+ghost use Rattle.peer_steps.specs.Arrivals.{IsMaking, place_judged, assigned_all, argument_assigned};
 
 use crate::lookup::syncs_of;
 use crate::placing::{put_node, put_value};
@@ -20,16 +23,15 @@ use peer_steps::Making;
 use scene_model::{Fault, SpawnMsg};
 use std::alloc::Global;
 
-/// What a spawn from a peer makes, beside as many rows of that peer, or why it is a fault.
-pub fn judge_shown(
+/// What a spawn from a peer makes, or why it is a fault.
+fn judge_shown(
     alloc: Global,
     tree: &Tree,
-    count: u32,
     from: &i32,
     spawn: &SpawnMsg,
 ) -> Result<Result<Making, Fault>, OutOfMemory>
     requires valid { IsValidScene tree.now.scene }
-    ensures { IfOk result (λ r. MatchResult r (λ x. (judged_beside tree.now.scene tree.now.nodes count from.now spawn.now ≡ None) × IsMaking tree.now.scene spawn.now x) (λ f. judged_beside tree.now.scene tree.now.nodes count from.now spawn.now ≡ Some f)) }
+    ensures { IfOk result (IsJudged tree.now.scene tree.now.nodes from.now spawn.now) }
 {
     match meaning(tree.scene(), from, spawn) {
         Ok((def, name)) => {
@@ -37,7 +39,7 @@ pub fn judge_shown(
                 return Ok(Err(fault));
             }
             let making = plan(alloc, tree, def, name, spawn)?;
-            match judge_making(tree, count, &making, spawn) {
+            match judge_making(tree, from, &making, spawn) {
                 Some(fault) => Ok(Err(fault)),
                 None => Ok(Ok(making)),
             }
@@ -46,12 +48,12 @@ pub fn judge_shown(
     }
 }
 
-fn judge_making(tree: &Tree, count: u32, making: &Making, spawn: &SpawnMsg) -> Option<Fault>
+fn judge_making(tree: &Tree, from: &i32, making: &Making, spawn: &SpawnMsg) -> Option<Fault>
     requires { IsMaking tree.now.scene spawn.now making.now }
-    ensures { result ≡ place_judged tree.now.nodes count (shown_path tree.now.scene spawn.now) (syncs_at tree.now.scene (shown_place tree.now.scene spawn.now)) spawn.now }
+    ensures { result ≡ place_judged tree.now.nodes (length (rows_under from.now tree.now.nodes)) (shown_path tree.now.scene spawn.now) (syncs_at tree.now.scene (shown_place tree.now.scene spawn.now)) spawn.now }
 {
     let defs = syncs_of(tree.scene(), making.place);
-    judge_place(tree, count, &making.path, defs, &making.props, spawn)
+    judge_place(tree, from, &making.path, defs, &making.props, spawn)
 }
 
 /// Assigns an argument to the property that takes it.
@@ -82,7 +84,7 @@ fn put_values(tree: &mut Tree, path: &Text, props: &[Text], values: ValueList)
 }
 
 /// Puts the node of a spawn that is no fault among the rows of its sender.
-pub fn put_shown(
+fn put_shown(
     alloc: Global,
     tree: &mut Tree,
     from: &i32,
@@ -91,7 +93,7 @@ pub fn put_shown(
 ) -> Result<(), OutOfMemory>
     requires valid { IsValidScene tree.old.scene }
     requires making { IsMaking tree.old.scene spawn making.now }
-    requires judged { shown_judged (record { id = from.now; scene = tree.old.scene }) tree.old.nodes from.now spawn ≡ None }
+    requires judged { shown_judged tree.old.scene tree.old.nodes from.now spawn ≡ None }
     ensures ok { OnOk result (tree.new ≡ record tree.old { nodes = put_by row_before (shown_node tree.old.scene from.now spawn) tree.old.nodes }) }
     ensures err { OnErr result (tree.new ≡ tree.old) }
 {
@@ -117,4 +119,23 @@ pub fn put_shown(
     put_argument(tree, &making.path, &making.argument, arg);
     put_values(tree, &making.path, making.props.as_slice(), values);
     Ok(())
+}
+
+/// Puts the node of a received spawn into the tree, or says why the spawn is a fault.
+pub fn put_spawn(
+    alloc: Global,
+    tree: &mut Tree,
+    from: &i32,
+    spawn: SpawnMsg,
+) -> Result<Option<Fault>, OutOfMemory>
+    requires { IsValidScene tree.old.scene }
+    ensures { IfOk result (λ f. (f, tree.new) ≡ shown_spawn from.now spawn tree.old) }
+{
+    match judge_shown(alloc, tree, from, &spawn)? {
+        Ok(making) => {
+            put_shown(alloc, tree, from, spawn, &making)?;
+            Ok(None)
+        }
+        Err(fault) => Ok(Some(fault)),
+    }
 }

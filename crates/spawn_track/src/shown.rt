@@ -1,5 +1,5 @@
 //! What a received spawn means in the scene, and why it is a fault.
-ghost use Rattle.std.specs.Prelude.{◌≡◌, ◌<◌, ◌++◌, ◌||◌, [], ◌∷◌, false, Some, None, IfOk, OnOk, MatchResult, find, option_map, is_some};
+ghost use Rattle.std.specs.Prelude.{◌≡◌, ◌<◌, ◌++◌, ◌||◌, [], ◌∷◌, false, Some, None, IfOk, OnOk, MatchResult, find, option_map, is_some, length};
 ghost use Rattle.std.specs.List.{list_any, list_all};
 ghost use Rattle.std.specs.Option.{option_copied};
 ghost use Rattle.gd_variant.specs.Words.{has_nat};
@@ -16,13 +16,12 @@ ghost use Rattle.peer_steps.specs.Arrivals.{meaning_judged, ids_judged, place_ju
 
 use crate::lookup::{scene_place, spawner_of, syncs_of};
 use crate::spawning::{CUSTOM_BYTE, MOST_ROWS};
-use crate::texts::{is_name, joined};
 use crate::values::fits;
 use gd_variant::{OutOfMemory, Text, TextRun, Variant};
 use headless_tree::Tree;
 use indexmap::IndexSet;
 use peer_steps::Making;
-use scene_model::{Fault, Node, Scene, SpawnMsg, SpawnerDef, SyncDef};
+use scene_model::{Fault, Node, Scene, SpawnMsg, SpawnerDef, SyncDef, bytes_of, is_name, joined};
 use sqlite_items::{Items, at as item_at};
 use std::alloc::Global;
 
@@ -199,25 +198,33 @@ fn is_wrong(defs: &[SyncDef], props: &TextRun, spawn: &SpawnMsg) -> bool
     spawn.syncs.len() != defs.len() || spawn.values.len() != props.len() || !all_are_short(spawn)
 }
 
-/// Why there is no place for the node of a spawn beside as many rows of its sender.
+/// How many rows of the sender there are.
+fn count_rows(tree: &Tree, from: &i32) -> usize
+    ensures { result ≡ length (rows_under from.now tree.now.nodes) }
+{
+    let from = *from;
+    tree.count_under(from)
+}
+
+/// Why there is no place for the node of a spawn beside the rows of its sender.
 pub fn judge_place(
     tree: &Tree,
-    count: u32,
+    from: &i32,
     path: &Text,
     defs: &[SyncDef],
     props: &TextRun,
     spawn: &SpawnMsg,
 ) -> Option<Fault>
     requires { props.now ≡ all_spawn_props defs.now }
-    ensures { result ≡ place_judged tree.now.nodes count path.now defs.now spawn.now }
+    ensures { result ≡ place_judged tree.now.nodes (length (rows_under from.now tree.now.nodes)) path.now defs.now spawn.now }
 {
-    if !is_name(&spawn.name) {
+    if !is_name(bytes_of(&spawn.name)) {
         return Some(Fault::BadName);
     }
     if has_path(tree, path) {
         return Some(Fault::NameTaken);
     }
-    if MOST_ROWS <= count as usize {
+    if MOST_ROWS <= count_rows(tree, from) {
         return Some(Fault::NodesFull);
     }
     if is_wrong(defs, props, spawn) {
@@ -278,7 +285,7 @@ pub fn plan(
     match scene_place(tree, name) {
         Some(place) => Ok(Making {
             under: def.under.try_clone(alloc)?,
-            path: joined(alloc, &def.under, &spawn.name)?,
+            path: joined(alloc, def.under.as_str(), spawn.name.as_str())?,
             place,
             props: spawn_names(alloc, syncs_of(tree.scene(), place))?,
             argument: argument_of(alloc, def)?,

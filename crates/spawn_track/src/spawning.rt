@@ -14,12 +14,13 @@ ghost use Rattle.peer_steps.specs.Spawns.{is_at_limit as is_at_limit_of, rows_of
 ghost use Rattle.peer_steps.specs.Sites.{IsSite, byte_in, under_in, spawner_judged, name_judged, room_judged, sets_judged, argument_judged, values_judged, rest_judged, named_judged, props_at};
 
 use crate::lookup::{scene_place, spawner_at, syncs_of};
-use crate::texts::{is_name, joined, same_text};
 use crate::values::{fits, owns};
 use gd_variant::{OutOfMemory, Text, Variant};
 use headless_tree::Tree;
 use peer_steps::{Site, SpawnedRow};
-use scene_model::{Prop, Refusal, Scene, SpawnOp, SpawnerDef, SyncDef};
+use scene_model::{
+    Prop, Refusal, Scene, SpawnOp, SpawnerDef, SyncDef, bytes_of, is_name, joined, same_text,
+};
 use sqlite_items::at as item_at;
 use std::alloc::Global;
 
@@ -88,7 +89,7 @@ fn judge_owned(id: &i32, tree: &Tree, def: Option<&SpawnerDef>, op: &SpawnOp) ->
 fn judge_name(tree: &Tree, name: &Text, path: &Text) -> Option<Refusal>
     ensures { result ≡ name_judged tree.now.nodes name.now path.now }
 {
-    if !is_name(name) {
+    if !is_name(bytes_of(name)) {
         return Some(Refusal::BadName);
     }
     match tree.node_at(path.as_str()) {
@@ -325,7 +326,7 @@ fn site_with(
     ensures within { IfOk result (λ (x : SiteOf). IfSome x.place (λ i. i < length tree.now.scene.scenes)) }
 {
     let under = under_of(alloc, def)?;
-    let path = joined(alloc, &under, &op.name)?;
+    let path = joined(alloc, under.as_str(), op.name.as_str())?;
     Ok(Site {
         under,
         path,

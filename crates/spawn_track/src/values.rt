@@ -7,9 +7,7 @@ ghost use Rattle.headless_tree.specs.Nodes.{live};
 
 use gd_variant::{Text, Variant, len_of};
 use headless_tree::NodeNow;
-
-/// The most bytes of a value's binary form.
-const MOST_VALUE_BYTES: u64 = 65536;
+use scene_model::MOST_VALUE_BYTES;
 
 /// Whether a value is short enough for a property.
 pub fn fits(value: &Variant) -> bool
