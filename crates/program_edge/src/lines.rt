@@ -1,5 +1,5 @@
 //! An input, read line by line in bounded memory.
-ghost use Rattle.std.specs.Prelude.{◌≡◌, ◌+◌, ◌++◌, ◌<◌, ◌≤◌, ℕ, List, length, take, drop, false, Some, IfOk, OnOk, OnErr};
+ghost use Rattle.std.specs.Prelude.{◌≡◌, ◌↔◌, ◌+◌, ◌++◌, ◌<◌, ◌≤◌, ℕ, List, length, take, drop, false, Some, IfOk, OnOk, OnErr};
 ghost use Rattle.std.specs.List.{position};
 ghost use Rattle.program_edge.specs.Causes.{HasCause};
 ghost use Rattle.program_edge.specs.Pieces.{Takes};
@@ -129,7 +129,10 @@ impl LineReader {
     {
         let (_, rest) = self.buffer.split_at(self.at + self.clean);
         match first_line_feed(rest) {
-            Some(count) => Some(self.clean + count),
+            Some(count) => {
+                self.clean += count;
+                Some(self.clean)
+            }
             None => {
                 self.clean = self.buffer.len() - self.at;
                 None
@@ -175,6 +178,22 @@ impl LineReader {
             None if !ended => Ok(None),
             None if held == 0 => Ok(Some(NextLine::End)),
             None => Ok(Some(NextLine::Last(self.split_line(alloc, held)?))),
+        }
+    }
+
+    /// Whether the bytes that are held decide what is next: then `next` doesn't ask the source.
+    pub fn is_ready(&mut self) -> bool
+        ensures open { result ≡ false ↔ IsOpen self.old }
+        ensures same { self.new ≡ self.old }
+        ensures bounded { self.new.kept ≤ self.new.most + PIECE }
+    {
+        let most = self.most;
+        let ended = self.ended;
+        let held = self.held();
+        match self.find_line_feed() {
+            Some(_) => true,
+            None if held > most => true,
+            None => ended,
         }
     }
 
