@@ -4,6 +4,8 @@ use Rattle.program_edge.specs.Causes.{Rose}
 use Rattle.program_edge.specs.declared.lines.ReadStop.{ReadStop}
 use Rattle.program_edge.specs.declared.lines.ReadStop.TheVariants as read
 use Rattle.program_edge.specs.declared.status.LineWhy.{LineWhy}
+use Rattle.program_edge.specs.declared.stop.LineStop.{LineStop}
+use Rattle.program_edge.specs.declared.stop.LineStop.TheVariants as stop
 use Rattle.program_edge.specs.declared.status.Status.{Status}
 use Rattle.program_edge.specs.declared.status.Status.TheVariants as status
 
@@ -11,6 +13,11 @@ use Rattle.program_edge.specs.declared.status.Status.TheVariants as status
 abbrev pub read_end : ReadStop → Status
 read_end read.Failed = status.ReadFault
 read_end read.OutOfMemory = status.OutOfMemory
+
+-- how a run ends at line n, which gives nothing
+abbrev pub line_end : ℕ → LineStop → Status
+line_end n (stop.LineBad why) = status.BadLine n why
+line_end n stop.OutOfMemory = status.OutOfMemory
 
 -- How a run may end, by the reasons for which a line may stop it and by how it ends without any line: a fault comes only where the count of the source or of the sink rose from the first number to the second.
 abbrev pub MayEnd : (LineWhy → Type 0) → ℕ → ℕ → ℕ → ℕ → Status → Type 0

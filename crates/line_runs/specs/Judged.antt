@@ -1,5 +1,5 @@
 -- The lines of an input that a run judges. Of a longer input only the first bytes, `limit` of them, are judged.
-use Rattle.std.specs.Prelude.{ℕ, Bool, true, List, [], ◌∷◌, length, take, if◌then◌else◌, nat_le}
+use Rattle.std.specs.Prelude.{ℕ, Bool, true, List, [], ◌∷◌, ◌++◌, length, take, if◌then◌else◌, nat_le}
 use Rattle.program_edge.specs.Lines.{is_line_feed}
 
 -- The bytes of a line that are judged, and whether the line ends there: its line feed is one of the judged bytes, or the input ends with them.
@@ -24,3 +24,12 @@ is_whole limit input = nat_le (length input) limit
 -- the judged lines of an input
 abbrev pub judged : ℕ → List ℕ → List Judged
 judged limit input = lines_of (is_whole limit input) (take limit input)
+
+-- a line that is judged whole
+abbrev pub whole_line : List ℕ → Judged
+whole_line l = record { line = l; ends = true }
+
+-- the same of lines that are listed newest first, in their order
+abbrev pub whole_lines : List (List ℕ) → List Judged
+whole_lines [] = []
+whole_lines (l ∷ ls) = whole_lines ls ++ whole_line l ∷ []

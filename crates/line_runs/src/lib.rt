@@ -1,8 +1,9 @@
-//! A command over an input of lines: each line is read, taken and answered before the next is read.
+//! A command over an input of lines: each line is read, taken and answered, and the answer is
+//! written before a read that may wait for more.
 #![tactic(auto)]
 
 mod run;
 mod taker;
 
 pub use run::run_lines;
-pub use taker::LineTaker;
+pub use taker::{Behind, LineTaker};
