@@ -9,9 +9,8 @@ use Rattle.program_edge.specs.Lines.{is_line_feed}
 use Rattle.program_edge.specs.declared.status.Status.TheVariants as status
 use Rattle.line_runs.specs.Judged.{Judged, before_all, is_whole, judged, lines_of}
 use Rattle.program_edge.specs.declared.status.LineWhy.{LineWhy}
-use Rattle.program_edge.specs.declared.status.Status.{Status}
-use Rattle.line_runs.specs.Output.{Read, end_after, next_number, read_by, read_in, read_line, read_on, stops}
-use Rattle.packet_show.specs.Shown.{show_told, shown, shown_by}
+use Rattle.line_runs.specs.Output.{Read, next_number, read_by, read_in, read_line, read_on, stops}
+use Rattle.packet_show.specs.Shown.{show_command, shown, shown_by}
 
 -- ---- an input is read to its end
 
@@ -27,15 +26,15 @@ by_length : (n : ℕ) (t ends : Bool) (o : Result (List ℕ) LineWhy) (rest : Re
 by_length n true ends o rest w h later = absurd (cc)
 by_length n false ends o rest w h later = by_end n ends o rest w h later
 
-by_whole : (w : Bool) (s : Status) → (stops (cond w s status.InputLong)).end ≡ status.Done → w ≡ true
-by_whole true s h = refl
-by_whole false s h = absurd (cc)
+by_whole : (w : Bool) → (cond w (stops status.Done) (stops status.InputLong)).end ≡ status.Done → w ≡ true
+by_whole true h = refl
+by_whole false h = absurd (cc)
 
-done_whole : (longest : ℕ) (w : Bool) (ls : List (List ℕ)) (more : List Judged) → (read_on show_told status.Done longest w ls more).end ≡ status.Done → w ≡ true
-done_whole longest w ls [] h = by_whole w (end_after status.Done ls) h
-done_whole longest w ls (l ∷ more) h = by_length (next_number ls) (nat_lt longest (length l.line)) l.ends (shown l.line) (read_on show_told status.Done longest w (l.line ∷ ls) more) w h (done_whole longest w (l.line ∷ ls) more)
+done_whole : (longest : ℕ) (w : Bool) (ls : List (List ℕ)) (more : List Judged) → (read_on show_command longest w ls more).end ≡ status.Done → w ≡ true
+done_whole longest w ls [] h = by_whole w h
+done_whole longest w ls (l ∷ more) h = by_length (next_number ls) (nat_lt longest (length l.line)) l.ends (shown l.line) (read_on show_command longest w (l.line ∷ ls) more) w h (done_whole longest w (l.line ∷ ls) more)
 
-pub done_within : (longest limit : ℕ) (input : List ℕ) → (read_in show_told status.Done longest limit input).end ≡ status.Done → length input ≤ limit
+pub done_within : (longest limit : ℕ) (input : List ℕ) → (read_in show_command longest limit input).end ≡ status.Done → length input ≤ limit
 unfolding read_in
 done_within longest limit input h = leb-true (length input) limit (done_whole longest (is_whole limit input) [] (judged limit input) h)
 
@@ -70,20 +69,15 @@ long_length : (n : ℕ) (t ends : Bool) (o : Result (List ℕ) LineWhy) (rest : 
 long_length n true ends o rest w h here later = absurd (cc)
 long_length n false ends o rest w h here later = long_end n ends o rest w h here later
 
--- without a line that stops it, a run ends as done
-done_after : (ls : List (List ℕ)) → end_after status.Done ls ≡ status.Done
-done_after [] = refl
-done_after (l ∷ ls) = refl
+long_by : (w : Bool) → (cond w (stops status.Done) (stops status.InputLong)).end ≡ status.InputLong → w ≡ false
+long_by true h = absurd (cc)
+long_by false h = refl
 
-long_by : (w : Bool) (s : Status) → s ≡ status.Done → (stops (cond w s status.InputLong)).end ≡ status.InputLong → w ≡ false
-long_by true s e h = absurd (cc)
-long_by false s e h = refl
+long_whole : (longest : ℕ) (w : Bool) (ls : List (List ℕ)) (more : List Judged) → AllEnd w more → (read_on show_command longest w ls more).end ≡ status.InputLong → w ≡ false
+long_whole longest w ls [] all h = long_by w h
+long_whole longest w ls (l ∷ more) all h = long_length (next_number ls) (nat_lt longest (length l.line)) l.ends (shown l.line) (read_on show_command longest w (l.line ∷ ls) more) w h all.0 (long_whole longest w (l.line ∷ ls) more all.1)
 
-long_whole : (longest : ℕ) (w : Bool) (ls : List (List ℕ)) (more : List Judged) → AllEnd w more → (read_on show_told status.Done longest w ls more).end ≡ status.InputLong → w ≡ false
-long_whole longest w ls [] all h = long_by w (end_after status.Done ls) (done_after ls) h
-long_whole longest w ls (l ∷ more) all h = long_length (next_number ls) (nat_lt longest (length l.line)) l.ends (shown l.line) (read_on show_told status.Done longest w (l.line ∷ ls) more) w h all.0 (long_whole longest w (l.line ∷ ls) more all.1)
-
-pub long_beyond : (longest limit : ℕ) (input : List ℕ) → (read_in show_told status.Done longest limit input).end ≡ status.InputLong → limit < length input
+pub long_beyond : (longest limit : ℕ) (input : List ℕ) → (read_in show_command longest limit input).end ≡ status.InputLong → limit < length input
 unfolding read_in
 long_beyond longest limit input h = leb-false (length input) limit (long_whole longest (is_whole limit input) [] (judged limit input) (lines_end (is_whole limit input) (take limit input)) h)
 

@@ -55,8 +55,7 @@ only_hex_by : (d : Result (List ℕ) FromHexError) (why : LineWhy) → shown_by 
 only_hex_by (Ok packet) why e = absurd (cc)
 only_hex_by (Err x) why e = cc
 
-pub only_hex : (line : List ℕ) (result : Result (List ℕ) LineStop) → TextOf line result → MayStop IsHex result
+pub only_hex : (line : List ℕ) (e : LineStop) → TextOf line (Err e) → MayStop IsHex (Err e)
 unfolding shown
-only_hex line (Ok text) h = tt
-only_hex line (Err (stops_line.LineBad why)) h = only_hex_by (decode_of line) why h
-only_hex line (Err stops_line.OutOfMemory) h = tt
+only_hex line (stops_line.LineBad why) h = only_hex_by (decode_of line) why h
+only_hex line stops_line.OutOfMemory h = tt

@@ -11,7 +11,8 @@ use Rattle.program_edge.specs.declared.status.LineWhy.{LineWhy}
 use Rattle.program_edge.specs.declared.status.LineWhy.TheVariants.{Hex}
 use Rattle.program_edge.specs.declared.stop.LineStop.{LineStop}
 use Rattle.program_edge.specs.declared.stop.LineStop.TheVariants.{LineBad, OutOfMemory}
-use Rattle.line_runs.specs.Output.{Telling}
+use Rattle.program_edge.specs.declared.status.Status.TheVariants as status
+use Rattle.line_runs.specs.Output.{Command, Telling, never_last, stops}
 
 -- what reading a packet came to
 abbrev pub read_line : Result Message Bad → List ℕ
@@ -34,6 +35,14 @@ shown line = shown_by (decode_of line)
 -- the same, whatever lines came before
 abbrev pub show_told : Telling
 show_told ls line = shown line
+
+-- the command `show`: no line ends the input, and its end gives nothing more
+abbrev pub show_command : Command
+show_command = record { told = show_told; is_last = never_last; closing = λ ls. stops status.Done }
+
+-- nothing is known of lines of packets but what they give
+abbrev pub NothingKnown : List (List ℕ) → Type 0
+NothingKnown ls = Unit {0}
 
 -- why a line gives none
 abbrev pub stop_of : FromHexError → LineStop

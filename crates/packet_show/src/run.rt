@@ -1,13 +1,12 @@
 //! The run over an input of packets.
 ghost use Rattle.std.specs.Prelude.{◌≡◌, List, ℕ, Some};
-ghost use Rattle.program_edge.specs.declared.status.Status.TheVariants as status;
 ghost use Rattle.line_runs.specs.Ends.{MayEnd};
 ghost use Rattle.line_runs.specs.Output.{EndsAs, read_in};
-ghost use Rattle.packet_show.specs.Shown.{IsHex, longest_line, most_judged, show_told};
+ghost use Rattle.packet_show.specs.Shown.{IsHex, NothingKnown, longest_line, most_judged, show_command};
 
 use crate::lines::line_text;
-use gd_variant::Bytes;
-use line_runs::{LineTaker, run_lines};
+use gd_variant::OutOfMemory;
+use line_runs::{Behind, LineTaker, run_lines};
 use program_edge::{LineStop, Sink, Source, Status};
 use std::alloc::Global;
 
@@ -22,25 +21,44 @@ const MOST_JUDGED: u32 = 1_073_741_824;
 pub struct Shower;
 
 impl LineTaker for Shower {
-    ghost told = { show_told };
-
-    ghost nothing = { status.Done };
+    ghost command = { show_command };
 
     ghost reasons = { IsHex };
 
     ghost took = { λ s ls. Unit {0} };
 
-    fn take(&mut self, alloc: Global, _n: u64, line: &[u8]) -> Result<Bytes, LineStop> {
-        line_text(alloc, line)
+    ghost known = { NothingKnown };
+
+    fn take(
+        &mut self,
+        alloc: Global,
+        _n: u64,
+        line: &[u8],
+        text: &mut Vec<u8>,
+    ) -> Result<Behind, LineStop> {
+        match line_text(alloc, line) {
+            Ok(shown) => {
+                text.extend_from_slice(shown.as_slice())?;
+                Ok(Behind::Lines)
+            }
+            Err(stop) => Err(stop),
+        }
     }
 
-    fn without_lines(&self) -> Status {
-        Status::Done
+    fn close(
+        &mut self,
+        _alloc: Global,
+        _n: u64,
+        _text: &mut Vec<u8>,
+    ) -> Result<Status, OutOfMemory> {
+        Ok(Status::Done)
     }
+
+    ghost knows = { λ s ls taken. tt };
 }
 
 /// Shows packets: reads an input of lines, each the bytes of a packet in hexadecimal, and writes for
-/// each line one line, before it reads on.
+/// each line one line, before it waits for more.
 ///
 /// A line ends with a line feed, and the last may lack it. Of the input only the first 1,073,741,824
 /// bytes are judged.
@@ -58,7 +76,7 @@ impl LineTaker for Shower {
 /// that are no packet stop nothing: their line says where they are wrong, and why.
 pub fn show<S: Source, K: Sink>(alloc: Global, source: &mut S, sink: &mut K) -> Status
     ensures ends { MayEnd IsHex (S.faults source.old) (S.faults source.new) (K.faults sink.old) (K.faults sink.new) result }
-    ensures output { (input held : List ℕ) → S.left source.old ≡ Some input → K.held sink.old ≡ Some held → EndsAs (read_in show_told status.Done longest_line most_judged input) held result (K.held sink.new) }
+    ensures output { (input held : List ℕ) → S.left source.old ≡ Some input → K.held sink.old ≡ Some held → EndsAs (read_in show_command longest_line most_judged input) held result (K.held sink.new) }
 {
     let mut shower = Shower;
     run_lines(alloc, LONGEST_LINE, MOST_JUDGED, &mut shower, source, sink)
