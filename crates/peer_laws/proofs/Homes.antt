@@ -1,42 +1,30 @@
 -- Where spawned nodes stand: below the node of a spawner whose authority is theirs. So nodes of two authorities never have one path.
-use Rattle.std.proofs.Common.{◌≡◌, ℕ, zero, suc, ℤ, Bool, true, false, cond, not, ◌&&◌, ◌||◌, List, [], ◌∷◌, ◌++◌, refl, sym, ap, ◌∙◌, map, nat_eq, is_some, Option, Some, None, Ok, Err}
-use Rattle.std.specs.Prelude.{find, slice_get, is_none, option_map, option_and_then, filter_map, flat_map, if◌then◌else◌}
-use Rattle.std.specs.List.{list_all, cons_option, AllByRecursion}
+use Rattle.std.proofs.Common.{◌≡◌, ℕ, zero, suc, ℤ, Bool, true, false, cond, not, ◌&&◌, ◌||◌, List, [], ◌∷◌, ◌++◌, refl, sym, ap, ◌∙◌, map, nat_eq, is_some, Option, Some, None}
+use Rattle.std.specs.Prelude.{find, slice_get, is_none, option_map, option_and_then, filter_map, if◌then◌else◌}
+use Rattle.std.specs.List.{list_all, cons_option}
 use Rattle.std.specs.Ordering.{int_eq}
-use Rattle.std.proofs.lemmas.Bool.{and_parts, and_from, or_parts}
-use Rattle.gd_variant.specs.Words.{text_eq, has_text, has_nat, some_is, or_else}
+use Rattle.std.proofs.lemmas.Bool.{and_parts, or_parts}
+use Rattle.gd_variant.specs.Words.{text_eq, has_text, has_nat, some_is}
 use Rattle.scene_model.specs.declared.scene.Scene.{Scene}
 use Rattle.scene_model.specs.declared.scene.Node.{Node}
 use Rattle.scene_model.specs.declared.scene.SpawnerDef.{SpawnerDef}
-use Rattle.scene_model.specs.declared.spawn.SpawnMsg.{SpawnMsg}
 use Rattle.scene_model.specs.declared.event.SpawnOp.{SpawnOp}
 use Rattle.scene_model.specs.declared.event.Op.TheVariants.{Spawn}
 use Rattle.scene_model.specs.Paths.{slash, forbidden, is_name, joined, parent_step, parent_of}
-use Rattle.scene_model.specs.Lookup.{fixed_node, fixed_node_at, spawner_of, spawner_at}
+use Rattle.scene_model.specs.Lookup.{fixed_node, spawner_of, spawner_at}
 use Rattle.scene_model.specs.Valid.{IsValidScene, has_twice}
-use Rattle.gd_variant.specs.declared.message.Plain.TheVariants as packet
-use Rattle.gd_variant.specs.declared.message.Message.TheVariants.{Plain as plain_packet}
-use Rattle.peer_model.specs.Heard.{Who, Heard, does, comes, goes, gets}
-use Rattle.peer_model.specs.Rows.{OwnRow, own_rows, spawned_path}
+use Rattle.peer_model.specs.Heard.{Who, Heard, does}
+use Rattle.peer_model.specs.Rows.{spawned_path}
 use Rattle.peer_model.specs.Refusals.{owns, may_make}
-use Rattle.peer_model.specs.Faults.{auth_is}
-use Rattle.peer_model.specs.Updates.{Live, Replica, Update, applied, by_number, shown_node, spawner_with, shown_path}
-use Rattle.peer_model.specs.View.{view, own_live, rows_of, rows_while, node_at, fixed_now, updates_from, authorities, tree_of}
+use Rattle.peer_model.specs.Updates.{Live}
+use Rattle.peer_model.specs.View.{node_at, authorities}
 use Rattle.peer_model.proofs.Nodes.{fixed_is_there}
 use Rattle.scene_model.proofs.TextLaws.{text_eq-true, text_eq-same}
-use Rattle.headless_tree.specs.Nodes.{is_row_of, is_spawned}
-use Rattle.peer_model.specs.Peers.{is_up}
-use Rattle.peer_laws.specs.Built.{Accepts, AllAccepted}
+use Rattle.peer_laws.specs.Built.{Accepts}
 use Rattle.peer_laws.proofs.Tests.{not_false, never, then_some, some_of, or_true, some_from}
-use Rattle.peer_laws.proofs.Numbers.{int_same, int_is}
-use Rattle.peer_laws.proofs.Each.{all-put_by, all_both, all_each, all-flat_map, all_joined}
-use Rattle.peer_laws.proofs.Authorities.{row_parts}
+use Rattle.peer_laws.proofs.Numbers.{int_is}
 use Rattle.peer_laws.proofs.Scenes.{unders_apart}
-use Rattle.peer_laws.proofs.Places.{found_at}
 use Rattle.peer_laws.proofs.TreeSpawns.{spawn_is_allowed}
-use Rattle.peer_laws.proofs.Views.{IsWelcome, shown_by, updates_received, updates_of_others, applied_show, spawn_is_welcome, view_is, rows_are_of}
-use Rattle.peer_laws.proofs.Origins.{IsMade, every_made}
-use Rattle.headless_tree.proofs.Order.{all_weaker}
 
 -- names have no slash
 
@@ -159,105 +147,11 @@ maker who es o h =
 pub spawned_path_is : (who : Who) (o : SpawnOp) (d : SpawnerDef) → spawner_at who.scene o.spawner ≡ Some d → spawned_path who o ≡ joined d.under o.name
 spawned_path_is who o d e = rw e refl
 
--- what this peer spawns stands where its nodes do
-pub spawned_home : (who : Who) (es : List Heard) → IsValidScene who.scene → (o : SpawnOp) → Accepts who es (does (Spawn o)) → home_authority who.scene (spawned_path who o) ≡ Some who.id
-spawned_home who es v o h =
-    let by = maker who es o h in
-    let at = found_at (λ (n : Node). text_eq n.path o.spawner) who.scene.nodes by.node by.there in
-    ap (home_authority who.scene) (spawned_path_is who o by.def (ap (option_and_then spawner_of) by.there ∙ by.role))
-    ∙ home_of who.scene v at.0 by.node by.def o.name at.1 by.role (not_false (is_name o.name) (spawn_is_allowed who es o h).name)
-    ∙ ap Some by.auth
-
--- what a welcome spawn makes stands where its sender's nodes do
-pub shown_home : (who : Who) (es : List Heard) (from : ℤ) (m : SpawnMsg) → IsValidScene who.scene → IsWelcome who es from m → home_authority who.scene (shown_path who.scene m) ≡ Some from
-shown_home who es from m v w =
-    let node = some_of (fixed_node_at who.scene m.spawner) (some_from (fixed_node_at who.scene m.spawner) w.known) in
-    let def = some_of (spawner_with who.scene m.spawner) (some_from (spawner_with who.scene m.spawner) w.spawner) in
-    ap (λ o. home_authority who.scene (joined (or_else (option_map (λ (d : SpawnerDef). d.under) o) []) m.name)) def.1
-    ∙ by_id m.spawner node.0 def.0 node.1 (sym (ap (option_and_then spawner_of) node.1) ∙ def.1)
-    ∙ ap Some (int_is node.0.auth from (sym (ap (auth_is from) node.1) ∙ not_false (auth_is from (fixed_node_at who.scene m.spawner)) w.authority))
-  where
-    by_id : (id : ℕ) (n : Node) (d : SpawnerDef) → fixed_node_at who.scene id ≡ Some n → spawner_of n ≡ Some d → home_authority who.scene (joined d.under m.name) ≡ Some n.auth
-    by_id zero n d e k = absurd (cc e)
-    by_id (suc i) n d e k = home_of who.scene v i n d m.name e k (not_false (is_name m.name) w.name)
-
 -- nodes of the tree
 
 -- whether a node stands where this authority's nodes do
 abbrev pub is_home : Scene → ℤ → Live → Bool
 is_home s c n = some_is (int_eq c) (home_authority s n.path)
-
-home_is : (s : Scene) (c : ℤ) (n : Live) → home_authority s n.path ≡ Some c → is_home s c n ≡ true
-home_is s c n h = ap (some_is (int_eq c)) h ∙ int_same c
-
-applied_home : (who : Who) (es : List Heard) → IsValidScene who.scene → AllAccepted who es → (c : ℤ) → list_all (is_home who.scene c) (applied who.scene c (updates_from who es c)).rows ≡ true
-applied_home who [] v h c = refl
-applied_home who (does op ∷ es) v h c = applied_home who es v h.1 c
-applied_home who (comes b ∷ es) v h c = applied_home who es v h.1 c
-applied_home who (goes b ∷ es) v h c = applied_home who es v h.1 c
-applied_home who (gets from class bytes (Ok (plain_packet (packet.Spawn scene spawner net syncs name arg values))) ∷ es) v h c = step (int_eq from c) refl (applied_home who es v h.1 c)
-  where
-    m : SpawnMsg
-    m = record { scene = scene; spawner = spawner; net = net; syncs = syncs; name = name; arg = arg; values = values }
-
-    homes : ℤ → List Update → Bool
-    homes z us = list_all (is_home who.scene z) (applied who.scene z us).rows
-
-    step : (b : Bool) → int_eq from c ≡ b → homes c (updates_from who es c) ≡ true → homes c (updates_from who (shown_by from class bytes m ∷ es) c) ≡ true
-    step true e more =
-        let same = int_is from c e in
-        ap (λ z. homes z (updates_from who (shown_by from class bytes m ∷ es) z)) (sym same)
-        ∙ ap (homes from) (updates_received who es from class bytes m)
-        ∙ ap (λ (r : Replica). list_all (is_home who.scene from) r.rows) (applied_show who.scene from (updates_from who es from) m)
-        ∙ all-put_by (is_home who.scene from) by_number (shown_node who.scene from m) (applied who.scene from (updates_from who es from)).rows
-        (home_is who.scene from (shown_node who.scene from m) (shown_home who es from m v (spawn_is_welcome who es from class bytes m h.0)))
-        (ap (λ z. homes z (updates_from who es z)) same ∙ more)
-    step false e more = ap (homes c) (updates_of_others who es from class bytes m c e) ∙ more
-applied_home who (gets from class bytes (Ok m) ∷ es) v h c = absurd (cc h.0.built)
-applied_home who (gets from class bytes (Err bad) ∷ es) v h c = applied_home who es v h.1 c
-
-own_home : (who : Who) (es : List Heard) → IsValidScene who.scene → (rs : List OwnRow) → AllByRecursion (IsMade who) rs → list_all (is_home who.scene who.id) (map (own_live who es) rs) ≡ true
-own_home who es v [] h = refl
-own_home who es v (r ∷ rs) h =
-    let made = h.0 in
-    and_from (is_home who.scene who.id (own_live who es r)) (list_all (is_home who.scene who.id) (map (own_live who es) rs))
-    (home_is who.scene who.id (own_live who es r) (ap (λ (x : OwnRow). home_authority who.scene x.path) made.is ∙ spawned_home who made.before v made.op made.now))
-    (own_home who es v rs h.1)
-
--- each row of an authority stands where its nodes do
-pub rows_home : (who : Who) (es : List Heard) → IsValidScene who.scene → AllAccepted who es → (c : ℤ) → list_all (is_home who.scene c) (rows_of who es c) ≡ true
-rows_home who es v all c = step (int_eq c who.id) refl
-  where
-    kept : (b : Bool) → list_all (is_home who.scene c) (rows_while b (applied who.scene c (updates_from who es c)).rows) ≡ true
-    kept true = applied_home who es v all c
-    kept false = refl
-
-    step : (b : Bool) → int_eq c who.id ≡ b → list_all (is_home who.scene c) (if b then map (own_live who es) (own_rows who es) else (view who es c).rows) ≡ true
-    step true e = ap (λ z. list_all (is_home who.scene z) (map (own_live who es) (own_rows who es))) (int_is c who.id e) ∙ own_home who es v (own_rows who es) (every_made who es all)
-    step false e = ap (λ (r : Replica). list_all (is_home who.scene c) r.rows) (view_is who es all c) ∙ kept (is_up es c)
-
--- whether a node is fixed, or stands where its authority's nodes do
-abbrev pub is_at_home : Scene → Live → Bool
-is_at_home s n = not (is_spawned n) || is_home s n.auth n
-
--- every spawned node stands where its authority's nodes do
-pub nodes_home : (who : Who) (es : List Heard) → IsValidScene who.scene → AllAccepted who es → list_all (is_at_home who.scene) (tree_of who es) ≡ true
-nodes_home who es v all =
-    all_joined (is_at_home who.scene) (map (fixed_now who es) who.scene.nodes) (flat_map (rows_of who es) (authorities who es)) (fixed who.scene.nodes)
-    (all-flat_map (λ c. true) (is_at_home who.scene) (rows_of who es) (λ c h. rows c) (authorities who es) (all_each (λ c. true) (λ c. refl) (authorities who es)))
-  where
-    fixed : (ns : List Node) → list_all (is_at_home who.scene) (map (fixed_now who es) ns) ≡ true
-    fixed [] = refl
-    fixed (n ∷ ns) = fixed ns
-
-    either : (a b : Bool) → b ≡ true → (not a || b) ≡ true
-    either true b h = h
-    either false b h = refl
-
-    rows : (c : ℤ) → list_all (is_at_home who.scene) (rows_of who es c) ≡ true
-    rows c = all_weaker (λ n. is_row_of c n && is_home who.scene c n) (is_at_home who.scene)
-        (λ n h. let parts = and_parts (is_row_of c n) (is_home who.scene c n) h in either (is_spawned n) (is_home who.scene n.auth n) (ap (λ z. is_home who.scene z n) (row_parts c n parts.0).1 ∙ parts.1))
-        (rows_of who es c) (all_both (is_row_of c) (is_home who.scene c) (rows_of who es c) (rows_are_of who es v all c) (rows_home who es v all c))
 
 -- no node of another authority stands where one's nodes do
 pub homes_apart : (s : Scene) (a c : ℤ) (path : List ℕ) (n : Live) → home_authority s path ≡ Some a → int_eq c a ≡ false → is_home s c n ≡ true → text_eq n.path path ≡ false

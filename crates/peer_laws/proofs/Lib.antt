@@ -31,4 +31,3 @@ pub mod Passing
 pub mod ValuesFit
 pub mod Views
 pub mod Ways
-pub mod Welcome

@@ -1,6 +1,6 @@
 -- What is found in a list.
-use Rattle.std.proofs.Common.{◌≡◌, ℕ, suc, Bool, true, false, cond, ◌||◌, List, [], ◌∷◌, ◌++◌, refl, sym, ap, ◌∙◌, Some}
-use Rattle.std.specs.Prelude.{find, slice_get, flat_map}
+use Rattle.std.proofs.Common.{◌≡◌, Bool, true, false, cond, ◌||◌, List, [], ◌∷◌, ◌++◌, refl, sym, ap, ◌∙◌, Some}
+use Rattle.std.specs.Prelude.{find, flat_map}
 use Rattle.std.specs.List.{list_any, list_all}
 use Rattle.std.proofs.lemmas.Bool.{and_parts, or_parts}
 use Rattle.std.proofs.lemmas.List.Folds.{list_any-append}
@@ -13,15 +13,6 @@ all_found p q (y ∷ ys) x h f = step (q y) (λ e. all_found p q ys x (and_parts
     step : (b : Bool) → (find q ys ≡ Some x → p x ≡ true) → cond b (Some y) (find q ys) ≡ Some x → p x ≡ true
     step true more e = let same : y ≡ x = cc in ap p (sym same) ∙ (and_parts (p y) (list_all p ys) h).0
     step false more e = more e
-
--- what is found stands at a place
-pub found_at : {X : Type 0} (p : X → Bool) (xs : List X) (x : X) → find p xs ≡ Some x → (i : ℕ) × (slice_get xs i ≡ Some x)
-found_at p [] x h = absurd (cc h)
-found_at p (y ∷ ys) x h = step (p y) h (λ k. found_at p ys x k)
-  where
-    step : (b : Bool) → cond b (Some y) (find p ys) ≡ Some x → (find p ys ≡ Some x → (i : ℕ) × (slice_get ys i ≡ Some x)) → (i : ℕ) × (slice_get (y ∷ ys) i ≡ Some x)
-    step true e more = (0, e)
-    step false e more = let rest = more e in (suc rest.0, rest.1)
 
 -- searches through joined lists
 

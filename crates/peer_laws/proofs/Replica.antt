@@ -1,16 +1,11 @@
 -- What a peer sees of another is what the updates that it received make, and in the end just the rows that the other shows it.
-use Rattle.std.proofs.Common.{◌≡◌, ℕ, ℤ, true, false, [], List, ap, ◌∙◌, reverse}
+use Rattle.std.proofs.Common.{◌≡◌, ℤ, true, false, [], List, ap, ◌∙◌, reverse}
 use Rattle.std.specs.Prelude.{flat_map}
-use Rattle.gd_variant.specs.Words.{has_nat}
 use Rattle.gd_variant.specs.declared.message.Plain.{Plain}
-use Rattle.scene_model.specs.declared.scene.Scene.{Scene}
 use Rattle.peer_model.specs.Heard.{Who, Heard}
 use Rattle.peer_model.specs.Peers.{is_up, was_up}
-use Rattle.peer_model.specs.Visible.{visible_rows}
-use Rattle.peer_model.specs.Updates.{Replica, applied, fixed_of}
-use Rattle.peer_model.specs.Changes.{changes, numbers_of, live_numbers}
+use Rattle.peer_model.specs.Updates.{applied, fixed_of}
 use Rattle.peer_model.specs.View.{view, updates_from, updates_in}
-use Rattle.peer_model.proofs.Shown.{told_is_visible}
 use Rattle.peer_laws.specs.Built.{AllAccepted}
 use Rattle.peer_laws.specs.Facts.{Facts}
 use Rattle.peer_laws.proofs.Ups.{up_if_was_not}
@@ -26,11 +21,3 @@ never_seen who es all f c new =
     view_is who es all c
     ∙ ap (λ t. kept_while t (applied who.scene c (updates_from who es c))) (up_if_was_not es c new)
     ∙ ap (λ (ps : List Plain). kept_while false (applied who.scene c (flat_map updates_in (reverse ps)))) (f.silent c new)
-
--- where all that a peer was told has come, the rows that are seen are those that it sees at their authority
-pub settled : (s : Scene) (a b : ℤ) (here there : List Heard) → AllAccepted (record { id = b; scene = s }) there → is_up here b ≡ true → is_up there a ≡ true
-    → updates_from (record { id = b; scene = s }) there a ≡ changes (record { id = a; scene = s }) here b
-    → (num : ℕ) → has_nat num (live_numbers (view (record { id = b; scene = s }) there a).rows) ≡ has_nat num (numbers_of (visible_rows (record { id = a; scene = s }) here b))
-settled s a b here there all up_here up_there got num =
-    ap (λ (r : Replica). has_nat num (live_numbers r.rows)) (in_view (record { id = b; scene = s }) there all a up_there ∙ ap (applied s a) got)
-    ∙ told_is_visible (record { id = a; scene = s }) here b up_here num

@@ -7,11 +7,11 @@ use Rattle.std.proofs.lemmas.List.{append-nil}
 use Rattle.gd_variant.specs.declared.value.Variant.{Variant}
 use Rattle.gd_variant.specs.declared.message.Plain.TheVariants as packet
 use Rattle.gd_variant.specs.declared.message.Message.{Message}
-use Rattle.gd_variant.specs.declared.message.Message.TheVariants.{Plain as plain_packet, Relay}
+use Rattle.gd_variant.specs.declared.message.Message.TheVariants.{Plain as plain_packet}
 use Rattle.gd_variant.specs.declared.message.Bad.{Bad}
 use Rattle.scene_model.specs.declared.event.Class.{Class}
 use Rattle.scene_model.specs.declared.event.SpawnOp.{SpawnOp}
-use Rattle.scene_model.specs.declared.event.Op.TheVariants.{Spawn, Set, Call}
+use Rattle.scene_model.specs.declared.event.Op.TheVariants.{Spawn, Set}
 use Rattle.scene_model.specs.Valid.{IsValidScene}
 use Rattle.peer_model.specs.Heard.{Who, Heard, does, comes, goes, gets}
 use Rattle.peer_model.specs.Peers.{peers_come, peers_up, is_up}
@@ -21,7 +21,7 @@ use Rattle.peer_model.specs.Changes.{show_of, is_frame}
 use Rattle.peer_model.specs.Ticks.{tick_of, sampled}
 use Rattle.peer_model.specs.View.{tree_of}
 use Rattle.peer_model.specs.Answer.{reliable, own_sends, sends, sends_to, change_sends, sample_sends, update_packet, runs, raws, skips}
-use Rattle.peer_laws.specs.Built.{Accepts, AllAccepted, is_built}
+use Rattle.peer_laws.specs.Built.{Accepts, AllAccepted}
 use Rattle.peer_laws.specs.Facts.{Facts}
 use Rattle.peer_laws.specs.Shown.{is_open, show_packet}
 use Rattle.peer_laws.proofs.Each.{of_each, all-sort_by}
@@ -102,19 +102,3 @@ sends_spawn who es o valid all a = step (is_open who.scene (row_made who es o).p
     step false h = flat_none (is_up es) (sends_to who (does (Spawn o)) es) h (peers_up es) (peers_are_up es)
 
 -- runs, raws and skips: none
-
-pub runs_none : (who : Who) (es : List Heard) (e : Heard) → is_built e ≡ true → runs who e es ≡ []
-runs_none who es (does (Call c)) h = absurd (cc h)
-runs_none who es (gets from class bytes (Ok (plain_packet (packet.Call target number args)))) h = absurd (cc h)
-runs_none who es (gets from class bytes (Ok (Relay peer p))) h = absurd (cc h)
-runs_none who es e h = refl
-
-pub raws_none : (who : Who) (e : Heard) → is_built e ≡ true → raws who e ≡ []
-raws_none who (gets from class bytes (Ok (plain_packet (packet.Raw raw)))) h = absurd (cc h)
-raws_none who (gets from class bytes (Ok (Relay peer p))) h = absurd (cc h)
-raws_none who e h = refl
-
-pub skips_none : (who : Who) (es : List Heard) (e : Heard) → is_built e ≡ true → skips who e es ≡ []
-skips_none who es (gets from class bytes (Ok (plain_packet (packet.Sync wire entries)))) h = absurd (cc h)
-skips_none who es (gets from class bytes (Ok (Relay peer p))) h = absurd (cc h)
-skips_none who es e h = refl

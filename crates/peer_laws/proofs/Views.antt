@@ -221,11 +221,6 @@ tree_rows_under who es v h f c among =
     filter-append (is_row_of c) (map (fixed_now who es) who.scene.nodes) (flat_map (rows_of who es) (authorities who es))
     ∙ ap₂ (λ xs ys. xs ++ ys) (no_fixed who es c who.scene.nodes) (under_flat (rows_of who es) (rows_are_of who es v h) c (authorities who es) (authorities_rise who es h f) among)
 
-pub own_rows_under : (who : Who) (es : List Heard) → IsValidScene who.scene → AllAccepted who es → Facts who es → rows_under who.id (tree_of who es) ≡ map (own_live who es) (own_rows who es)
-own_rows_under who es v h f =
-    tree_rows_under who es v h f who.id (this_among who es)
-    ∙ ap (λ b. if b then map (own_live who es) (own_rows who es) else (view who es who.id).rows) (int_same who.id)
-
 pub view_rows_under : (who : Who) (es : List Heard) → IsValidScene who.scene → AllAccepted who es → Facts who es → (c : ℤ) → is_up es c ≡ true → int_eq c who.id ≡ false → rows_under c (tree_of who es) ≡ (view who es c).rows
 view_rows_under who es v h f c up other =
     tree_rows_under who es v h f c (up_among who es c up)
