@@ -19,13 +19,6 @@ pub record Fills {X : Type 0} (read : Reader X) (front : List X) (bytes : List �
   pub within : length bytes ≤ most
   pub so_far : before front (filling_by read most bytes) ≡ total
 
-before_nothing : {X : Type 0} (read : Result (List X) Fault) → before [] read ≡ read
-before_nothing (Ok xs) = refl
-before_nothing (Err f) = refl
-
-pub fills_start : {X : Type 0} (read : Reader X) (bytes : List ℕ) → Fills read [] bytes (filling_by read (length bytes) bytes)
-fills_start read bytes = record { most = length bytes; within = omega arith; so_far = before_nothing (filling_by read (length bytes) bytes) }
-
 regroup : {X : Type 0} (front : List X) (x : X) (read : Result (List X) Fault) → before front (read >>= λ xs. Ok (x ∷ xs)) ≡ before (front ++ x ∷ []) read
 regroup front x (Ok xs) = ap Ok (sym (append_assoc front (x ∷ []) xs))
 regroup front x (Err f) = refl

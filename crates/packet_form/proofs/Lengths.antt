@@ -1,9 +1,9 @@
 -- How long the parts of a written packet are.
-use Rattle.std.proofs.Common.{◌≡◌, ℕ, ◌+◌, ◌*◌, ◌/◌, ◌%◌, ◌<◌, ◌^◌, Bool, true, false, List, [], ◌∷◌, ◌++◌, length, take, get_or, refl, sym, ap, ◌∙◌, arith}
+use Rattle.std.proofs.Common.{◌≡◌, ℕ, ◌+◌, ◌*◌, ◌/◌, ◌%◌, ◌<◌, ◌^◌, Bool, true, false, List, [], ◌∷◌, ◌++◌, length, refl, ◌∙◌, arith}
 use Rattle.std.specs.Prelude.{ℤ, Option, Some}
 use Rattle.std.specs.List.{flat_map}
 use Rattle.std.specs.Int.{w8, w16, w32, w64, byte_len}
-use Rattle.std.proofs.lemmas.List.{length-append, take_more}
+use Rattle.std.proofs.lemmas.List.{length-append}
 use Rattle.byte_fields.specs.Fields.{word}
 use Rattle.byte_fields.specs.Complement.{bits_of, half32}
 use Rattle.byte_fields.proofs.Fields.{wide8, wide16, wide32, wide64, length-word}
@@ -42,16 +42,6 @@ method_length true n = half_size n
 method_length false n = byte_size n
 
 -- ---- one after the other
-
-longer : {X : Type 0} (write : X → List ℕ) (xs : List X) (x : X) → length (flat_map write (xs ++ x ∷ [])) ≡ length (flat_map write xs) + length (write x)
-longer write [] x = omega (arith, length-append (write x) [])
-longer write (y ∷ xs) x = omega (arith, longer write xs x, length-append (write y) (flat_map write (xs ++ x ∷ [])), length-append (write y) (flat_map write xs))
-
--- one more of them
-pub longer_at : {X : Type 0} (write : X → List ℕ) (xs : List X) (i : ℕ) (x : X) → i < length xs → x ≡ get_or xs i x → length (flat_map write (take (i + 1) xs)) ≡ length (flat_map write (take i xs)) + length (write x)
-longer_at write xs i x lt is =
-    ap (λ ys. length (flat_map write ys)) (take_more xs i x lt ∙ ap (λ y. take i xs ++ y ∷ []) (sym is))
-    ∙ longer write (take i xs) x
 
 -- each of the same length
 pub each_size : {X : Type 0} (write : X → List ℕ) (n : ℕ) → ((x : X) → length (write x) ≡ n) → (xs : List X) → length (flat_map write xs) ≡ n * length xs

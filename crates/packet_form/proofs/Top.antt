@@ -111,9 +111,6 @@ bad_only b bad (inr h) =
 abbrev Answered : Result Message CodecStop → List ℕ → Type 0
 Answered result b = Answers (λ x. x) result (read_packet b)
 
-answer_ok : (result : Result Message CodecStop) (read : Result Message Bad) (m : Message) → Answers (λ x. x) result read → result ≡ Ok m → read ≡ Ok m
-answer_ok result read m a e = subst (λ r. Answers (λ x. x) r read) e a
-
 answer_bad : (result : Result Message CodecStop) (read : Result Message Bad) (bad : Bad) → Answers (λ x. x) result read → result ≡ Err (stops.Bad bad) → read ≡ Err bad
 answer_bad result read bad a e = subst (λ r. Answers (λ x. x) r read) e a
 
@@ -126,10 +123,6 @@ is_bad : (result : Result Message CodecStop) (read : Result Message Bad) (bad : 
 is_bad (Ok x) read bad a e = absurd (not_both x bad (sym a ∙ e))
 is_bad (Err stops.OutOfMemory) read bad a e = inr refl
 is_bad (Err (stops.Bad y)) read bad a e = inl (ap (λ (z : Bad). Err (stops.Bad z)) (err_bad y bad (sym a ∙ e)))
-
--- a message that was answered is that of the packet
-pub answer_found : (b : List ℕ) (result : Result Message CodecStop) → IsBytes b → Answered result b → (m : Message) → result ≡ Ok m → Frames m b
-answer_found b result fits a m e = read_found b m fits (answer_ok result (read_packet b) m a e)
 
 pub answer_frames : (b : List ℕ) (result : Result Message CodecStop) → IsBytes b → Answered result b → IfOk result (λ m. Frames m b)
 answer_frames b (Ok m) fits a = read_found b m fits a

@@ -70,10 +70,6 @@ turned_whole w to from out back = record {
   broken = λ bytes rest why c. w.broken bytes rest why (back bytes rest why c);
 }
 
--- the same relation of breaking
-pub seen_as : {X : Type 0} {read : Whole X} {R S : Relation X} {B : Breaking} → IsWhole read R B → ((x : X) (b : List ℕ) → R x b → S x b) → ((x : X) (b : List ℕ) → S x b → R x b) → IsWhole read S B
-seen_as w to from = turned_whole w to from (λ b rest why h. h) (λ b rest why h. h)
-
 -- the same relation of forms
 pub breaks_as : {X : Type 0} {read : Whole X} {R : Relation X} {B C : Breaking} → IsWhole read R B
     → ((b rest : List ℕ) (why : Why) → B b rest why → C b rest why) → ((b rest : List ℕ) (why : Why) → C b rest why → B b rest why) → IsWhole read R C

@@ -1,9 +1,9 @@
 -- Putting bytes at the end, one after the other.
-use Rattle.std.proofs.Common.{◌≡◌, ℕ, ◌+◌, ◌<◌, ◌≤◌, List, [], ◌∷◌, ◌++◌, length, take, get_or, Result, Ok, Err, refl, sym, ap, ◌∙◌, append_assoc, arith}
+use Rattle.std.proofs.Common.{◌≡◌, ℕ, ◌+◌, ◌<◌, ◌≤◌, List, [], ◌∷◌, ◌++◌, length, get_or, Result, Ok, Err, refl, sym, ap, ◌∙◌, append_assoc, arith}
 use Rattle.std.specs.Prelude.{ℤ, OnOk}
 use Rattle.std.specs.Int.{w8, w32}
 use Rattle.std.specs.List.{flat_map}
-use Rattle.std.proofs.lemmas.List.{append-nil, flat_map_more, take_more}
+use Rattle.std.proofs.lemmas.List.{append-nil}
 use Rattle.std.proofs.lemmas.List.Folds.{length-flat_map-take}
 use Rattle.byte_fields.specs.Fields.{word}
 use Rattle.gd_variant.specs.declared.value.Variant.{Variant}
@@ -52,12 +52,6 @@ on_ok (Err x) P Q f h = tt
 pub zero_byte : word w8 0 ≡ 0 ∷ []
 unfolding word
 zero_byte = refl
-
--- one more of them
-pub written_more : {X : Type 0} (write : X → List ℕ) (xs : List X) (i : ℕ) (x : X) (old now after : List ℕ) → i < length xs → x ≡ get_or xs i x → now ≡ old ++ flat_map write (take i xs) → after ≡ now ++ write x → after ≡ old ++ flat_map write (take (i + 1) xs)
-written_more write xs i x old now after lt is e f =
-    f ∙ ap (λ (b : List ℕ). b ++ write x) e ∙ flat_map_more write old (take i xs) x
-    ∙ ap (λ ys. old ++ flat_map write ys) (sym (take_more xs i x lt ∙ ap (λ y. take i xs ++ y ∷ []) (sym is)))
 
 -- one of them is no longer than all
 pub part_short : {X : Type 0} (write : X → List ℕ) (xs : List X) (i : ℕ) (x : X) → i < length xs → x ≡ get_or xs i x → length (write x) ≤ length (flat_map write xs)
