@@ -9,7 +9,7 @@ ghost use Rattle.peer_steps.specs.Fits.{Fits};
 ghost use Rattle.peer_steps.specs.Sites.{MaySpawn, who_at, own_made, with_made, after_made, site_row, has_short, with_settings};
 ghost use Rattle.peer_steps.specs.Track.{own_spawn};
 
-use crate::placing::{put_node, put_value};
+use crate::placing::{NewNode, put_node, put_value};
 use crate::spawning::{judge_spawn, site_of, syncs_at_place};
 use gd_variant::{IdList, OutOfMemory, Text};
 use headless_tree::Tree;
@@ -95,12 +95,14 @@ fn add_row(
     put_node(
         alloc,
         tree,
-        &site.under,
-        &op.name,
-        id,
-        num,
-        &row.ids,
-        row.place,
+        NewNode {
+            under: &site.under,
+            name: &op.name,
+            auth: id,
+            num,
+            ids: &row.ids,
+            place: row.place,
+        },
     )?;
     put_sets(alloc, tree, &site.path, op.sets.as_slice())?;
     Ok(row)

@@ -13,27 +13,38 @@ use gd_variant::{IdList, OutOfMemory, Text, Variant};
 use headless_tree::{Tree, TreeNo};
 use std::alloc::Global;
 
-/// Adds a node below a fixed one with the defaults of the scene at a place.
-pub fn put_node(
-    alloc: Global,
-    tree: &mut Tree,
-    under: &Text,
-    name: &Text,
-    auth: &i32,
-    num: u32,
-    ids: &IdList,
-    place: u32,
-) -> Result<(), OutOfMemory>
-    requires scene { place < length tree.old.scene.scenes }
-    requires numbers { are_new auth.now num ids.now tree.old.nodes ≡ true }
-    requires under { is_some (fixed_node tree.old.scene under.now) ≡ true }
-    requires free { live_at tree.old.nodes (joined under.now name.now) ≡ None }
-    ensures ok { OnOk result (tree.new ≡ record tree.old { nodes = put_by row_before (spawned_node tree.old.scene (joined under.now name.now) auth.now num ids.now place) tree.old.nodes }) }
+/// A node that is to be added: the path of its parent and its name, its authority, its number and its
+/// synchronizers' ids, and the place of its scene.
+#[derive(Clone, Copy)]
+pub struct NewNode<'a> {
+    pub under: &'a Text,
+    pub name: &'a Text,
+    pub auth: &'a i32,
+    pub num: u32,
+    pub ids: &'a IdList,
+    pub place: u32,
+}
+
+/// Adds a node below a fixed one with the defaults of its scene.
+pub fn put_node(alloc: Global, tree: &mut Tree, node: NewNode<'_>) -> Result<(), OutOfMemory>
+    requires scene { node.place < length tree.old.scene.scenes }
+    requires numbers { are_new node.auth.now node.num node.ids.now tree.old.nodes ≡ true }
+    requires under { is_some (fixed_node tree.old.scene node.under.now) ≡ true }
+    requires free { live_at tree.old.nodes (joined node.under.now node.name.now) ≡ None }
+    ensures ok { OnOk result (tree.new ≡ record tree.old { nodes = put_by row_before (spawned_node tree.old.scene (joined node.entry.under.now node.entry.name.now) node.entry.auth.now node.entry.num node.entry.ids.now node.entry.place) tree.old.nodes }) }
     ensures err { OnErr result (tree.new ≡ tree.old) }
 {
-    let auth = *auth;
+    let auth = *node.auth;
     tree.holds();
-    match tree.insert(alloc, under.as_str(), name.as_str(), auth, num, ids, place) {
+    match tree.insert(
+        alloc,
+        node.under.as_str(),
+        node.name.as_str(),
+        auth,
+        node.num,
+        node.ids,
+        node.place,
+    ) {
         Ok(()) => Ok(()),
         Err(TreeNo::OutOfMemory) => Err(OutOfMemory),
         Err(TreeNo::NoNode) => unreachable!(),

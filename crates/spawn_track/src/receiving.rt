@@ -15,7 +15,7 @@ ghost use Rattle.peer_steps.specs.Spawns.{shown_judged};
 ghost use Rattle.peer_steps.specs.Arrivals.{IsMaking, place_judged, assigned_all, argument_assigned};
 
 use crate::lookup::syncs_of;
-use crate::placing::{put_node, put_value};
+use crate::placing::{NewNode, put_node, put_value};
 use crate::shown::{judge_ids, judge_place, meaning, plan};
 use gd_variant::{OutOfMemory, Text, ValueList, Variant};
 use headless_tree::Tree;
@@ -100,12 +100,14 @@ fn put_shown(
     put_node(
         alloc,
         tree,
-        &making.under,
-        &spawn.name,
-        from,
-        spawn.net,
-        &spawn.syncs,
-        making.place,
+        NewNode {
+            under: &making.under,
+            name: &spawn.name,
+            auth: from,
+            num: spawn.net,
+            ids: &spawn.syncs,
+            place: making.place,
+        },
     )?;
     let SpawnMsg {
         scene: _,
