@@ -21,7 +21,7 @@ use Rattle.session_text.specs.Json.{hex_of, int_of, nat_of, tagged_of}
 use Rattle.session_text.specs.Values.{path_of, vector_of, opaque_of, pair_data, tree_data, trees_data, pairs_data}
 use Rattle.program_edge.specs.declared.status.LineWhy.{LineWhy}
 use Rattle.line_text.specs.Reading.{Reading, ◌>>=◌, each_read}
-use Rattle.line_text.specs.Parts.{word_read, text_read, bool_read, nat_read, long_read, short_read, bytes_read, array_read, two_of, three_of, two_read, three_read, list_read, decoded}
+use Rattle.line_text.specs.Parts.{word_read, text_read, bool_read, nat_read, i64_read, i32_read, bytes_read, array_read, two_of, three_of, two_read, three_read, list_read, decoded}
 use Rattle.line_text.specs.Values.{path_read, ints_read, raw_read, run_read, flat_read, form_read, forms_read, pairs_read, value_read}
 use Rattle.line_text.specs.Written.{are_bytes, holds_bytes, hold_bytes, ReadsWritten}
 
@@ -34,8 +34,8 @@ pub text_back : (s : List ℕ) → is_text s ≡ true → text_read (string s) �
 unfolding text_read word_read
 text_back s h = let p = and_parts (has_no_zero s) (is_utf8 s) h in rw p.0 refl
 
-long_back : (z : ℤ) → is_long z ≡ true → long_read (int_of z) ≡ Ok z
-unfolding long_read
+long_back : (z : ℤ) → is_long z ≡ true → i64_read (int_of z) ≡ Ok z
+unfolding i64_read
 long_back (pos n) h = rw h refl
 long_back (negsuc n) h = refl
 
@@ -43,8 +43,8 @@ short_long : (z : ℤ) → is_short z ≡ true → is_long z ≡ true
 short_long (pos n) h = lt-ltb _ _ (omega (arith, ltb-true n (2 ^ 31) h))
 short_long (negsuc n) h = lt-ltb _ _ (omega (arith, ltb-true n (2 ^ 31) h))
 
-short_back : (z : ℤ) → is_short z ≡ true → short_read (int_of z) ≡ Ok z
-unfolding short_read
+short_back : (z : ℤ) → is_short z ≡ true → i32_read (int_of z) ≡ Ok z
+unfolding i32_read
 short_back z h = rw (long_back z (short_long z h), h) refl
 
 are_bytes-IsBytes : (bs : List ℕ) → are_bytes bs ≡ true → IsBytes bs
@@ -105,7 +105,7 @@ path_back a ns ss h k = rw (list_back text_read string is_text text_back ns h, l
 
 vector_back : (c : ℕ) (zs : List ℤ) → c ≤ 255 → list_all is_short zs ≡ true → form_read (vector_of c zs) ≡ ok (value_of (ints c zs))
 unfolding form_read flat_read ints_read two_read two_of array_read
-vector_back c zs small h = rw (nat_back c small, list_back short_read int_of is_short short_back zs h) (ap ok (sym (value.rolls-Ints (record { code = c; items = zs }))))
+vector_back c zs small h = rw (nat_back c small, list_back i32_read int_of is_short short_back zs h) (ap ok (sym (value.rolls-Ints (record { code = c; items = zs }))))
 
 opaque_back : (c : ℕ) (w : Bool) (bs : List ℕ) → c ≤ 255 → are_bytes bs ≡ true → form_read (opaque_of c w bs) ≡ ok (value_of (opaque c w bs))
 unfolding form_read flat_read raw_read three_read three_of array_read bool_read
@@ -113,11 +113,11 @@ opaque_back c w bs small h = rw (nat_back c small, bytes_back bs h) (ap ok (sym 
 
 long_run_back : (zs : List ℤ) → list_all is_long zs ≡ true → form_read (tree_data (packed_ints true zs)) ≡ ok (value_of (packed_ints true zs))
 unfolding form_read flat_read run_read
-long_run_back zs h = rw (list_back long_read int_of is_long long_back zs h) (ap ok (sym (value.rolls-PackedInts (record { wide = true; items = zs }))))
+long_run_back zs h = rw (list_back i64_read int_of is_long long_back zs h) (ap ok (sym (value.rolls-PackedInts (record { wide = true; items = zs }))))
 
 short_run_back : (zs : List ℤ) → list_all is_short zs ≡ true → form_read (tree_data (packed_ints false zs)) ≡ ok (value_of (packed_ints false zs))
 unfolding form_read flat_read run_read
-short_run_back zs h = rw (list_back short_read int_of is_short short_back zs h) (ap ok (sym (value.rolls-PackedInts (record { wide = false; items = zs }))))
+short_run_back zs h = rw (list_back i32_read int_of is_short short_back zs h) (ap ok (sym (value.rolls-PackedInts (record { wide = false; items = zs }))))
 
 texts_back : (ts : List (List ℕ)) → list_all is_text ts ≡ true → form_read (tree_data (packed_texts ts)) ≡ ok (value_of (packed_texts ts))
 unfolding form_read flat_read

@@ -45,20 +45,20 @@ nat_read low high (array ds) = Err Shape
 nat_read low high (object ms) = Err Shape
 
 -- a signed number of 64 bits
-unfoldable pub long_read : Reading ℤ
-long_read (number (unsigned n)) = if nat_lt n (2 ^ 63) then Ok (pos n) else Err Range
-long_read (number (negative z)) = Ok z
-long_read (number (float x)) = Err Shape
-long_read null = Err Shape
-long_read (boolean b) = Err Shape
-long_read (string s) = Err Shape
-long_read (array ds) = Err Shape
-long_read (object ms) = Err Shape
+unfoldable pub i64_read : Reading ℤ
+i64_read (number (unsigned n)) = if nat_lt n (2 ^ 63) then Ok (pos n) else Err Range
+i64_read (number (negative z)) = Ok z
+i64_read (number (float x)) = Err Shape
+i64_read null = Err Shape
+i64_read (boolean b) = Err Shape
+i64_read (string s) = Err Shape
+i64_read (array ds) = Err Shape
+i64_read (object ms) = Err Shape
 
 -- a signed number of 32 bits
-unfoldable pub short_read : Reading ℤ
-short_read d = do
-  z ← long_read d
+unfoldable pub i32_read : Reading ℤ
+i32_read d = do
+  z ← i64_read d
   if is_short z then Ok z else Err Range
 
 -- what hexadecimal digits stand for

@@ -20,7 +20,7 @@ use Rattle.program_edge.specs.declared.status.LineWhy.{LineWhy}
 use Rattle.program_edge.specs.declared.status.LineWhy.TheVariants.{Shape, Scene as SceneWrong}
 use Rattle.line_text.specs.Reading.{Reading, ◌>>=◌}
 use Rattle.line_text.specs.Lines.{line_data}
-use Rattle.line_text.specs.Parts.{text_read, bool_read, nat_read, short_read, two_read, three_read, list_read, object_read, needed, or_default}
+use Rattle.line_text.specs.Parts.{text_read, bool_read, nat_read, i32_read, two_read, three_read, list_read, object_read, needed, or_default}
 use Rattle.line_text.specs.Words.{class_read, repl_read, rpc_read}
 use Rattle.line_text.specs.Values.{value_read}
 
@@ -127,7 +127,7 @@ unfoldable pub node_read : Reading Node
 node_read d = do
   ms ← object_read node_keys d
   path ← needed text_read (codes "path") ms
-  auth ← or_default (pos 1) short_read (codes "auth") ms
+  auth ← or_default (pos 1) i32_read (codes "auth") ms
   props ← or_default [] (list_read prop_read) (codes "props") ms
   methods ← or_default [] (list_read method_read) (codes "methods") ms
   role ← role_read ms

@@ -9,7 +9,7 @@ use Rattle.gd_variant.specs.Sound.{is_sound}
 use Rattle.program_edge.specs.declared.status.LineWhy.{LineWhy}
 use Rattle.program_edge.specs.declared.status.LineWhy.TheVariants.{Shape, Name, Range}
 use Rattle.line_text.specs.Reading.{Reading, ◌>>=◌}
-use Rattle.line_text.specs.Parts.{text_read, bool_read, nat_read, long_read, short_read, bytes_read, three_read, two_read, list_read, all_known}
+use Rattle.line_text.specs.Parts.{text_read, bool_read, nat_read, i64_read, i32_read, bytes_read, three_read, two_read, list_read, all_known}
 
 -- whether it is absolute, its names, and the names of properties
 unfoldable pub path_read : Reading Variant
@@ -25,7 +25,7 @@ unfoldable pub ints_read : Reading Variant
 ints_read d = do
   ds ← two_read d
   code ← nat_read 0 255 ds.0
-  items ← list_read short_read ds.1
+  items ← list_read i32_read ds.1
   Ok (value.Ints (record { code = code; items = items }))
 
 -- the code of a value of floats, whether they have eight bytes, and the bytes
@@ -40,7 +40,7 @@ raw_read d = do
 -- a packed array of numbers
 unfoldable pub run_read : Bool → Reading Variant
 run_read wide d = do
-  items ← list_read (if wide then long_read else short_read) d
+  items ← list_read (if wide then i64_read else i32_read) d
   Ok (value.PackedInts (record { wide = wide; items = items }))
 
 -- a value that is written as an object with one key and holds no others, by that key
@@ -69,7 +69,7 @@ unfoldable mutual
   pub form_read : Data → Result Variant LineWhy
   form_read null = Ok value.Nil
   form_read (boolean b) = Ok (value.Bool b)
-  form_read (number n) = long_read (number n) >>= λ z. Ok (value.Int z)
+  form_read (number n) = i64_read (number n) >>= λ z. Ok (value.Int z)
   form_read (string s) = text_read (string s) >>= λ t. Ok (value.Text t)
   form_read (array ds) = forms_read ds >>= λ vs. Ok (value.Array vs)
   form_read (object ms) = tagged_read ms

@@ -4,11 +4,12 @@
 //! an object in the order of the keys that docs/FORMATS.md lists, and the first thing wrong is the reason.
 #![tactic(auto)]
 
-mod json;
 mod line;
+mod lists;
 mod methods;
 mod nodes;
 mod operations;
+mod parts;
 mod props;
 mod scenes;
 mod sessions;
@@ -19,4 +20,4 @@ mod words;
 pub use program_edge::LineStop;
 pub use scenes::read_scene;
 pub use sessions::{SessionLine, read_event, written_lines_are_read};
-pub use values::{value_of, values_of, written_values_are_read};
+pub use values::written_values_are_read;

@@ -1,16 +1,16 @@
 //! Methods in a scene line.
-ghost use Rattle.std.specs.Prelude.{[], None, codes};
-ghost use Rattle.serde_json.specs.View.{view, items_view, members_view};
-ghost use Rattle.line_text.specs.Reading.{Gives, each_read};
-ghost use Rattle.line_text.specs.Parts.{list_read, or_default};
+ghost use Rattle.std.specs.Prelude.{None, codes};
+ghost use Rattle.serde_json.specs.View.{view, members_view};
+ghost use Rattle.line_text.specs.Reading.{Gives};
+ghost use Rattle.line_text.specs.Parts.{or_default};
 ghost use Rattle.line_text.specs.Scenes.{method_read, sets_read};
 
-use crate::json::{array_of, bool_of, key_of, member, nat_of, object_of, pair_of, text_of};
+use crate::lists::FromValue;
+use crate::parts::{bool_of, key_of, member, nat_of, object_of, pair_of, text_of};
 use crate::words::{class_of, rpc_of};
 use program_edge::LineStop;
-use scene_model::{Method, MethodList, Sets};
+use scene_model::{Method, Sets};
 use serde_json::{Map, Value};
-use sqlite_items::Items;
 use std::alloc::Global;
 
 /// What a method sets: a property, and the number of the argument that it takes.
@@ -38,54 +38,25 @@ fn method_sets_of(alloc: Global, members: &Map<String, Value>) -> Result<Option<
     }
 }
 
-#[tactic(auto, unfolding(crate::specs::Scenes::method_read))]
-fn method_of(alloc: Global, value: &Value) -> Result<Method, LineStop>
-    ensures { Gives (λ m. m) result (method_read (view value.now)) }
-{
-    let members = object_of(value, &["name", "mode", "local", "class", "args", "sets"])?;
-    let name = text_of(alloc, key_of(members, "name")?)?;
-    let mode = rpc_of(key_of(members, "mode")?)?;
-    let local = bool_of(key_of(members, "local")?)?;
-    let class = class_of(key_of(members, "class")?)?;
-    let args = nat_of(0, 255, key_of(members, "args")?)?;
-    let sets = method_sets_of(alloc, members)?;
-    Ok(Method {
-        name,
-        mode,
-        local,
-        class,
-        args: args as u8,
-        sets,
-    })
-}
+impl FromValue for Method {
+    ghost reading = { method_read };
 
-fn each_method(alloc: Global, items: &[Value]) -> Result<MethodList, LineStop>
-    ensures { Gives (λ ms. ms) result (each_read method_read (items_view items.now)) }
-{
-    let mut all = Items::new(alloc);
-    for item in items {
-        let method = method_of(alloc, item)?;
-        all.push(method)?;
-    }
-    Ok(all)
-}
-
-/// An array of methods.
-#[tactic(auto, unfolding(crate::specs::Parts::list_read))]
-pub fn methods_of(alloc: Global, value: &Value) -> Result<MethodList, LineStop>
-    ensures { Gives (λ ms. ms) result (list_read method_read (view value.now)) }
-{
-    let items = array_of(value)?;
-    each_method(alloc, items)
-}
-
-/// The methods of a node, none where the key is missing.
-#[tactic(auto, unfolding(crate::specs::Parts::optional))]
-pub fn node_methods_of(alloc: Global, members: &Map<String, Value>) -> Result<MethodList, LineStop>
-    ensures { Gives (λ ms. ms) result (or_default [] (list_read method_read) (codes "methods") (members_view members.now.entries)) }
-{
-    match member(members, "methods") {
-        Some(value) => methods_of(alloc, value),
-        None => Ok(Items::new(alloc)),
+    #[tactic(auto, unfolding(crate::specs::Scenes::method_read))]
+    fn from_value(alloc: Global, value: &Value) -> Result<Method, LineStop> {
+        let members = object_of(value, &["name", "mode", "local", "class", "args", "sets"])?;
+        let name = text_of(alloc, key_of(members, "name")?)?;
+        let mode = rpc_of(key_of(members, "mode")?)?;
+        let local = bool_of(key_of(members, "local")?)?;
+        let class = class_of(key_of(members, "class")?)?;
+        let args = nat_of(0, 255, key_of(members, "args")?)?;
+        let sets = method_sets_of(alloc, members)?;
+        Ok(Method {
+            name,
+            mode,
+            local,
+            class,
+            args: args as u8,
+            sets,
+        })
     }
 }

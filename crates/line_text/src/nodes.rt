@@ -2,21 +2,17 @@
 ghost use Rattle.std.specs.Prelude.{None, codes, pos, IfOk, ◌≤◌};
 ghost use Rattle.std.specs.Int.{w32};
 ghost use Rattle.std.specs.Int.RustNames.{FitsSigned};
-ghost use Rattle.serde_json.specs.View.{view, items_view, members_view};
-ghost use Rattle.line_text.specs.Reading.{Gives, each_read};
-ghost use Rattle.line_text.specs.Parts.{list_read, nat_read, or_default, short_read};
+ghost use Rattle.serde_json.specs.View.{view, members_view};
+ghost use Rattle.line_text.specs.Reading.{Gives};
+ghost use Rattle.line_text.specs.Parts.{nat_read, or_default, i32_read};
 ghost use Rattle.line_text.specs.Scenes.{custom_read, node_read, role_read, spawner_read};
 
-use crate::json::{
-    array_of, key_of, member, nat_of, object_of, pair_of, short_of, text_of, texts_of,
-};
-use crate::methods::node_methods_of;
-use crate::props::node_props_of;
+use crate::lists::{FromValue, list_of, optional_list_of};
+use crate::parts::{i32_of, key_of, member, nat_of, object_of, pair_of, text_of};
 use crate::syncs::node_sync_of;
 use program_edge::{LineStop, LineWhy};
-use scene_model::{CustomDef, Node, NodeList, Role, SpawnerDef};
+use scene_model::{CustomDef, Node, Role, SpawnerDef};
 use serde_json::{Map, Value};
-use sqlite_items::Items;
 use std::alloc::Global;
 
 /// What a custom spawn makes: a node of a scene, whose property takes the argument.
@@ -64,7 +60,7 @@ fn spawner_of(alloc: Global, value: &Value) -> Result<SpawnerDef, LineStop>
 {
     let members = object_of(value, &["under", "scenes", "limit", "custom"])?;
     let under = text_of(alloc, key_of(members, "under")?)?;
-    let scenes = texts_of(alloc, key_of(members, "scenes")?)?;
+    let scenes = list_of(alloc, key_of(members, "scenes")?)?;
     let limit = limit_of(members)?;
     let custom = spawner_custom_of(alloc, members)?;
     Ok(SpawnerDef {
@@ -93,53 +89,35 @@ fn role_of(alloc: Global, members: &Map<String, Value>) -> Result<Role, LineStop
 /// The authority of a node, the server where the key is missing.
 #[tactic(auto, unfolding(crate::specs::Parts::optional))]
 fn auth_of(members: &Map<String, Value>) -> Result<i32, LineStop>
-    ensures gives { Gives (λ z. z) result (or_default (pos 1) short_read (codes "auth") (members_view members.now.entries)) }
+    ensures gives { Gives (λ z. z) result (or_default (pos 1) i32_read (codes "auth") (members_view members.now.entries)) }
     ensures fits { IfOk result (λ z. FitsSigned w32 z) }
 {
     match member(members, "auth") {
-        Some(value) => short_of(value),
+        Some(value) => i32_of(value),
         None => Ok(1),
     }
 }
 
-#[tactic(auto, unfolding(crate::specs::Scenes::node_read))]
-fn node_of(alloc: Global, value: &Value) -> Result<Node, LineStop>
-    ensures { Gives (λ n. n) result (node_read (view value.now)) }
-{
-    let members = object_of(
-        value,
-        &["path", "auth", "props", "methods", "spawner", "sync"],
-    )?;
-    let path = text_of(alloc, key_of(members, "path")?)?;
-    let auth = auth_of(members)?;
-    let props = node_props_of(alloc, members)?;
-    let methods = node_methods_of(alloc, members)?;
-    let role = role_of(alloc, members)?;
-    Ok(Node {
-        path,
-        auth,
-        props,
-        methods,
-        role,
-    })
-}
+impl FromValue for Node {
+    ghost reading = { node_read };
 
-fn each_node(alloc: Global, items: &[Value]) -> Result<NodeList, LineStop>
-    ensures { Gives (λ ns. ns) result (each_read node_read (items_view items.now)) }
-{
-    let mut all = Items::new(alloc);
-    for item in items {
-        let node = node_of(alloc, item)?;
-        all.push(node)?;
+    #[tactic(auto, unfolding(crate::specs::Scenes::node_read))]
+    fn from_value(alloc: Global, value: &Value) -> Result<Node, LineStop> {
+        let members = object_of(
+            value,
+            &["path", "auth", "props", "methods", "spawner", "sync"],
+        )?;
+        let path = text_of(alloc, key_of(members, "path")?)?;
+        let auth = auth_of(members)?;
+        let props = optional_list_of(alloc, members, "props")?;
+        let methods = optional_list_of(alloc, members, "methods")?;
+        let role = role_of(alloc, members)?;
+        Ok(Node {
+            path,
+            auth,
+            props,
+            methods,
+            role,
+        })
     }
-    Ok(all)
-}
-
-/// An array of fixed nodes.
-#[tactic(auto, unfolding(crate::specs::Parts::list_read))]
-pub fn nodes_of(alloc: Global, value: &Value) -> Result<NodeList, LineStop>
-    ensures { Gives (λ ns. ns) result (list_read node_read (view value.now)) }
-{
-    let items = array_of(value)?;
-    each_node(alloc, items)
 }

@@ -9,7 +9,7 @@ ghost use Rattle.line_text.specs.Parts.{list_read, text_read};
 ghost use Rattle.line_text.specs.Held.{IsGiven, prop_names, prop_values};
 ghost use Rattle.line_text.specs.Operations.{first_of, four_of, later_ops, op_by, op_read, set_read, setting_read, spawn_read, worded_read};
 
-use crate::json::{array_of, pair_of, text_of, three_of, word_of};
+use crate::parts::{array_of, pair_of, text_of, three_of, word_of};
 use crate::values::value_of;
 use gd_variant::Text;
 use program_edge::{LineStop, LineWhy};

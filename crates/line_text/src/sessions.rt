@@ -9,9 +9,9 @@ ghost use Rattle.line_text.specs.Held.{HasPlainSpawn, IsGivenLine, is_built, is_
 ghost use Rattle.line_text.specs.WrittenLines.{ReadsSessions};
 ghost use Rattle.line_text.specs.Sessions.{at_peer_read, connect_read, later_lines, line_by, line_read, none_of, one_of, peer_read, rel_read, report_read, session_line_read};
 
-use crate::json::{nat_of, two_of};
 use crate::line::data_of;
 use crate::operations::{op_of, worded_of};
+use crate::parts::{nat_of, two_of};
 use program_edge::{LineStop, LineWhy};
 use scene_model::WorldEvent;
 use serde_json::Value;

@@ -1,48 +1,31 @@
 //! Synchronizers in a scene line.
 ghost use Rattle.std.specs.Prelude.{[], true, codes};
-ghost use Rattle.serde_json.specs.View.{view, items_view, members_view};
-ghost use Rattle.line_text.specs.Reading.{Gives, each_read};
-ghost use Rattle.line_text.specs.Parts.{bool_read, list_read, or_default};
+ghost use Rattle.serde_json.specs.View.{view, members_view};
+ghost use Rattle.line_text.specs.Reading.{Gives};
+ghost use Rattle.line_text.specs.Parts.{bool_read, or_default};
 ghost use Rattle.line_text.specs.Scenes.{node_sync_read, scene_sync_read, sync_of, sync_prop_read};
 
-use crate::json::{array_of, bool_of, key_of, member, object_of, text_of, triple_of};
+use crate::lists::{FromValue, list_of};
+use crate::parts::{bool_of, key_of, member, object_of, text_of, triple_of};
 use crate::words::repl_of;
 use gd_variant::Text;
 use program_edge::LineStop;
-use scene_model::{SyncDef, SyncList, SyncProp, SyncPropList};
+use scene_model::{SyncDef, SyncProp};
 use serde_json::{Map, Value};
-use sqlite_items::Items;
 use std::alloc::Global;
 
 /// A property of a synchronizer: its name, when it is told, and whether a spawn tells it.
-#[tactic(auto, unfolding(crate::specs::Scenes::sync_prop_read))]
-fn sync_prop_of(alloc: Global, value: &Value) -> Result<SyncProp, LineStop>
-    ensures { Gives (λ p. p) result (sync_prop_read (view value.now)) }
-{
-    let (prop, mode, spawn) = triple_of(value)?;
-    let prop = text_of(alloc, prop)?;
-    let mode = repl_of(mode)?;
-    let spawn = bool_of(spawn)?;
-    Ok(SyncProp { prop, mode, spawn })
-}
+impl FromValue for SyncProp {
+    ghost reading = { sync_prop_read };
 
-fn each_sync_prop(alloc: Global, items: &[Value]) -> Result<SyncPropList, LineStop>
-    ensures { Gives (λ ps. ps) result (each_read sync_prop_read (items_view items.now)) }
-{
-    let mut all = Items::new(alloc);
-    for item in items {
-        let prop = sync_prop_of(alloc, item)?;
-        all.push(prop)?;
+    #[tactic(auto, unfolding(crate::specs::Scenes::sync_prop_read))]
+    fn from_value(alloc: Global, value: &Value) -> Result<SyncProp, LineStop> {
+        let (prop, mode, spawn) = triple_of(value)?;
+        let prop = text_of(alloc, prop)?;
+        let mode = repl_of(mode)?;
+        let spawn = bool_of(spawn)?;
+        Ok(SyncProp { prop, mode, spawn })
     }
-    Ok(all)
-}
-
-#[tactic(auto, unfolding(crate::specs::Parts::list_read))]
-fn sync_props_of(alloc: Global, value: &Value) -> Result<SyncPropList, LineStop>
-    ensures { Gives (λ ps. ps) result (list_read sync_prop_read (view value.now)) }
-{
-    let items = array_of(value)?;
-    each_sync_prop(alloc, items)
 }
 
 /// Whether a synchronizer is public, which it is where the key is missing.
@@ -62,7 +45,7 @@ fn sync_from(alloc: Global, of: Text, members: &Map<String, Value>) -> Result<Sy
     ensures { Gives (λ s. s) result (sync_of of (members_view members.now.entries)) }
 {
     let public = public_of(members)?;
-    let props = sync_props_of(alloc, key_of(members, "props")?)?;
+    let props = list_of(alloc, key_of(members, "props")?)?;
     Ok(SyncDef { of, public, props })
 }
 
@@ -77,31 +60,13 @@ pub fn node_sync_of(alloc: Global, value: &Value) -> Result<SyncDef, LineStop>
 }
 
 /// A synchronizer of a spawned node.
-#[tactic(auto, unfolding(crate::specs::Scenes::scene_sync_read))]
-fn scene_sync_of(alloc: Global, value: &Value) -> Result<SyncDef, LineStop>
-    ensures { Gives (λ s. s) result (scene_sync_read (view value.now)) }
-{
-    let members = object_of(value, &["public", "props"])?;
-    let target = Text::from_str(alloc, "")?;
-    sync_from(alloc, target, members)
-}
+impl FromValue for SyncDef {
+    ghost reading = { scene_sync_read };
 
-fn each_sync(alloc: Global, items: &[Value]) -> Result<SyncList, LineStop>
-    ensures { Gives (λ ss. ss) result (each_read scene_sync_read (items_view items.now)) }
-{
-    let mut all = Items::new(alloc);
-    for item in items {
-        let sync = scene_sync_of(alloc, item)?;
-        all.push(sync)?;
+    #[tactic(auto, unfolding(crate::specs::Scenes::scene_sync_read))]
+    fn from_value(alloc: Global, value: &Value) -> Result<SyncDef, LineStop> {
+        let members = object_of(value, &["public", "props"])?;
+        let target = Text::from_str(alloc, "")?;
+        sync_from(alloc, target, members)
     }
-    Ok(all)
-}
-
-/// The synchronizers of a scene.
-#[tactic(auto, unfolding(crate::specs::Parts::list_read))]
-pub fn syncs_of(alloc: Global, value: &Value) -> Result<SyncList, LineStop>
-    ensures { Gives (λ ss. ss) result (list_read scene_sync_read (view value.now)) }
-{
-    let items = array_of(value)?;
-    each_sync(alloc, items)
 }

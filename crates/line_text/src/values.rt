@@ -2,18 +2,18 @@
 ghost use Rattle.std.specs.Prelude.{◌≡◌, IfOk, IsTrue, true};
 ghost use Rattle.serde_json.specs.View.{view, items_view, members_view};
 ghost use Rattle.gd_variant.specs.Sound.{is_sound as is_sound_value};
-ghost use Rattle.line_text.specs.Reading.{Gives, each_read};
-ghost use Rattle.line_text.specs.Parts.{list_read};
+ghost use Rattle.line_text.specs.Reading.{Gives};
 ghost use Rattle.line_text.specs.Written.{ReadsWritten};
 ghost use Rattle.line_text.specs.Values.{dict_read, entry_read, flat_read, form_read, forms_read, ints_read, keys_why, pair_read, pairs_read, path_read, raw_read, run_read, tagged_read, value_read};
 
-use crate::json::{
-    are_known, array_of, bool_of, bytes_of, i32_list_of, long_of, longs_of, nat_of, pair_of,
-    shorts_of, text_of, texts_of, triple_of,
+use crate::lists::list_of;
+use crate::parts::{
+    are_known, bool_of, bytes_of, i32s_as_i64s_of, i64_of, nat_of, pair_of, text_of, triple_of,
 };
-use gd_variant::{IntRun, IntsOf, NodePath, Opaque, Pair, Pairs, ValueList, Variant, is_sound};
+use gd_variant::{IntRun, IntsOf, NodePath, Opaque, Pair, Pairs, ValueList, Variant};
 use program_edge::{LineStop, LineWhy};
 use serde_json::{Map, Value};
+use sound_check::judge_sound;
 use sqlite_items::Items;
 use std::alloc::Global;
 
@@ -24,8 +24,8 @@ fn path_of(alloc: Global, value: &Value) -> Result<Variant, LineStop>
 {
     let (absolute, names, subnames) = triple_of(value)?;
     let absolute = bool_of(absolute)?;
-    let names = texts_of(alloc, names)?;
-    let subnames = texts_of(alloc, subnames)?;
+    let names = list_of(alloc, names)?;
+    let subnames = list_of(alloc, subnames)?;
     Ok(Variant::Path(NodePath {
         absolute,
         names,
@@ -40,7 +40,7 @@ fn ints_of(alloc: Global, value: &Value) -> Result<Variant, LineStop>
 {
     let (code, items) = pair_of(value)?;
     let code = nat_of(0, 255, code)?;
-    let items = i32_list_of(alloc, items)?;
+    let items = list_of(alloc, items)?;
     Ok(Variant::Ints(IntsOf {
         code: code as u8,
         items,
@@ -69,10 +69,10 @@ fn run_of(alloc: Global, wide: bool, value: &Value) -> Result<Variant, LineStop>
     ensures { Gives (λ v. v) result (run_read wide (view value.now)) }
 {
     if wide {
-        let items = longs_of(alloc, value)?;
+        let items = list_of(alloc, value)?;
         Ok(Variant::PackedInts(IntRun { wide: true, items }))
     } else {
-        let items = shorts_of(alloc, value)?;
+        let items = i32s_as_i64s_of(alloc, value)?;
         Ok(Variant::PackedInts(IntRun { wide: false, items }))
     }
 }
@@ -90,7 +90,7 @@ fn flat_of(alloc: Global, key: &str, value: &Value) -> Result<Variant, LineStop>
         "bytes" => Ok(Variant::PackedBytes(bytes_of(alloc, value)?)),
         "i32" => run_of(alloc, false, value),
         "i64" => run_of(alloc, true, value),
-        "texts" => Ok(Variant::PackedTexts(texts_of(alloc, value)?)),
+        "texts" => Ok(Variant::PackedTexts(list_of(alloc, value)?)),
         _ => Err(LineStop::LineBad(LineWhy::Name)),
     }
 }
@@ -210,7 +210,7 @@ fn form_of(value: &Value, alloc: Global) -> Result<Variant, LineStop>
     match value {
         Value::Null => Ok(Variant::Nil),
         Value::Bool(b) => Ok(Variant::Bool(*b)),
-        Value::Number(_) => Ok(Variant::Int(long_of(value)?)),
+        Value::Number(_) => Ok(Variant::Int(i64_of(value)?)),
         Value::String(_) => Ok(Variant::Text(text_of(alloc, value)?)),
         Value::Array(items) => {
             let values = forms_of(items.as_slice(), alloc)?;
@@ -227,30 +227,10 @@ pub fn value_of(alloc: Global, value: &Value) -> Result<Variant, LineStop>
     ensures sound { IfOk result (λ v. is_sound_value v ≡ true) }
 {
     let found = form_of(value, alloc)?;
-    if !is_sound(&found) {
+    if !judge_sound(alloc, &found)? {
         return Err(LineStop::LineBad(LineWhy::Range));
     }
     Ok(found)
-}
-
-fn each_value(alloc: Global, items: &[Value]) -> Result<ValueList, LineStop>
-    ensures { Gives (λ vs. vs) result (each_read value_read (items_view items.now)) }
-{
-    let mut all = Items::new(alloc);
-    for item in items {
-        let value = value_of(alloc, item)?;
-        all.push(value)?;
-    }
-    Ok(all)
-}
-
-/// An array of values, each judged by itself.
-#[tactic(auto, unfolding(crate::specs::Parts::list_read))]
-pub fn values_of(alloc: Global, value: &Value) -> Result<ValueList, LineStop>
-    ensures { Gives (λ vs. vs) result (list_read value_read (view value.now)) }
-{
-    let items = array_of(value)?;
-    each_value(alloc, items)
 }
 
 /// What is written of a sound value is read as that value. (That a byte is below 256, which the law

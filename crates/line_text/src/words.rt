@@ -3,7 +3,7 @@ ghost use Rattle.serde_json.specs.View.{view};
 ghost use Rattle.line_text.specs.Reading.{Gives};
 ghost use Rattle.line_text.specs.Words.{class_read, repl_read, rpc_read};
 
-use crate::json::word_of;
+use crate::parts::word_of;
 use program_edge::{LineStop, LineWhy};
 use scene_model::{Class, ReplMode, RpcMode};
 use serde_json::Value;

@@ -1,6 +1,0 @@
-use Rattle.line_text.specs.Parts.{short_read}
-use Rattle.line_text.proofs.Each.{Reads}
-use Rattle.line_text.proofs.json.each_i32.Given as goal
-
-abbrev pub invariant-loop-item : goal.invariant-loop-item
-invariant-loop-item l = Reads short_read l.all l.item-index l.items
