@@ -37,10 +37,14 @@ pub fn repeats_prop(props: &[Prop]) -> bool
     false
 }
 
+/// Whether a value is too long or isn't sound. Of a value that is too long no keys are compared.
 fn is_wrong(prop: &Prop) -> bool
     ensures { result ≡ value_long prop.now }
 {
-    !is_sound(&prop.value) || is_long(&prop.value)
+    if is_long(&prop.value) {
+        return true;
+    }
+    !is_sound(&prop.value)
 }
 
 /// Whether a default value isn't sound or is too long.
