@@ -18,7 +18,7 @@ use Rattle.peer_model.specs.Heard.{Heard}
 use Rattle.peer_model.specs.View.{report_of, row_of}
 use Rattle.peer_model.specs.Bytes.{PacketForm}
 use Rattle.peer_laws.proofs.TreeStart.{tree_start}
-use Rattle.peer_steps.specs.Kept.{Kept, new_kept}
+use Rattle.peer_steps.specs.Kept.{Kept, new_peer}
 use Rattle.peer_steps.specs.Stands.{HasParts, StandsFor, is_answered, built_answer, is_built_event}
 use Rattle.peer_steps.specs.Peers.{peer_comes}
 use Rattle.peer_steps.specs.Judged.{lacks_server, link_judged}
@@ -26,8 +26,8 @@ use Rattle.peer_steps.specs.Steps.{Taken, taken, unchanged, up_taken, op_taken, 
 use Rattle.peer_steps.proofs.Whole.{taken_right, kept_still}
 
 -- a new peer stands for no events
-pub start_stands : (form : PacketForm) (id : ℤ) (s : Scene) → IsValidScene s → StandsFor form (new_kept id s) []
-start_stands form id s valid = record {
+pub start_stands : (form : PacketForm) (s : Scene) (id : ℤ) → IsValidScene s → StandsFor form (new_peer s id) []
+start_stands form s id valid = record {
   live = refl;
   valid = valid;
   accepted = tt;

@@ -1,12 +1,12 @@
 -- A tree and own rows that fit stay so: before any event, and after each that a peer takes.
-use Rattle.std.proofs.Common.{◌≡◌, ℕ, ◌+◌, ◌<◌, ◌≤◌, ℤ, Bool, true, false, cond, not, ◌&&◌, ◌||◌, List, [], ◌∷◌, ◌++◌, refl, sym, ap, ◌∙◌, length, nat_lt, arith, is_some, Option, Some, None}
+use Rattle.std.proofs.Common.{◌≡◌, ℕ, ◌+◌, ◌<◌, ◌≤◌, ℤ, Bool, true, false, cond, not, ◌&&◌, ◌||◌, List, [], ◌∷◌, refl, ap, ◌∙◌, length, nat_lt, arith, is_some, Option, Some, None}
 use Rattle.std.specs.Prelude.{IfSome, is_none, zip, option_and_then, position}
 use Rattle.std.specs.List.{list_all}
 use Rattle.std.specs.Ordering.{int_eq}
 use Rattle.std.proofs.lemmas.Bool.Decides.{nat_tests}
 use Rattle.std.proofs.lemmas.Bool.{and_parts, and_from}
 use Rattle.std.proofs.lemmas.List.Folds.{list_all-append, list_all-map}
-use Rattle.gd_variant.specs.Words.{text_eq, put_by, when}
+use Rattle.gd_variant.specs.Words.{text_eq, when}
 use Rattle.gd_variant.specs.Sound.{is_sound}
 use Rattle.gd_variant.specs.declared.value.Variant.{Variant}
 use Rattle.scene_model.specs.declared.scene.Node.{Node}
@@ -32,13 +32,12 @@ use Rattle.headless_tree.proofs.Order.{all_weaker}
 use Rattle.headless_tree.proofs.Places.{found_within}
 use Rattle.peer_laws.specs.Shown.{spawned_live}
 use Rattle.peer_laws.proofs.Each.{all-put_by, all-filter, all_both, all_each}
-use Rattle.peer_laws.proofs.Numbers.{int_same}
 use Rattle.peer_laws.proofs.Scenes.{shown_is_placed, all_right, nodes_right, right_node}
 use Rattle.peer_laws.proofs.Tests.{no_row, not_false}
 use Rattle.peer_steps.specs.declared.site.Site.{Site}
 use Rattle.peer_steps.specs.Rows.{row_of_spawn}
 use Rattle.peer_steps.specs.Rights.{is_right_value, are_right, has_right_values, is_right_row, is_before}
-use Rattle.peer_steps.specs.Sites.{IsSite, MaySpawn, byte_in, under_in, who_at, own_made, with_made, after_made, has_short}
+use Rattle.peer_steps.specs.Sites.{IsSite, MaySpawn, byte_in, under_in, who_at, own_made, after_made, has_short}
 use Rattle.peer_steps.specs.Sound.{is_sound_argument, is_sound_spawn}
 use Rattle.peer_steps.specs.Spawns.{spawn_judged, shown_judged}
 use Rattle.peer_steps.specs.Judged.{set_judged, set_nodes}

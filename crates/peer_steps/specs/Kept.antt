@@ -20,5 +20,5 @@ abbrev pub kept_tree : Kept → TreeOf
 kept_tree k = record { scene = k.who.scene; nodes = k.nodes }
 
 -- a new peer
-abbrev pub new_kept : ℤ → Scene → Kept
-new_kept id s = record { who = record { id = id; scene = s }; spent = false; peers = no_peers id; nodes = fixed_nodes s; track = no_rows }
+abbrev pub new_peer : Scene → ℤ → Kept
+new_peer s id = record { who = record { id = id; scene = s }; spent = false; peers = no_peers id; nodes = fixed_nodes s; track = no_rows }

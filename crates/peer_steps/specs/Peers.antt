@@ -1,5 +1,5 @@
 -- The other peers that one peer knows, and what a link that comes up or goes down makes of them.
-use Rattle.std.specs.Prelude.{ℤ, pos, Bool, true, false, not, ◌&&◌, ◌||◌, List, [], ◌∷◌, ◌++◌, filter, length, Option, Some, None, nat_le, int_lt, if◌then◌else◌}
+use Rattle.std.specs.Prelude.{ℤ, pos, Bool, not, ◌&&◌, ◌||◌, List, [], ◌∷◌, ◌++◌, filter, length, Option, Some, None, nat_le, int_lt, if◌then◌else◌}
 use Rattle.std.specs.Ordering.{int_eq}
 use Rattle.gd_variant.specs.Words.{has_int, when, first_of, put_by}
 use Rattle.scene_model.specs.declared.outcome.Refusal.{Refusal}

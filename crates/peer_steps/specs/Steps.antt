@@ -1,5 +1,5 @@
 -- What a peer answers to an event, and what it keeps then.
-use Rattle.std.specs.Prelude.{◌≡◌, ℕ, ℤ, Bool, true, false, List, [], ◌∷◌, map, filter, Option, Some, None, Result, Ok, Err, if◌then◌else◌}
+use Rattle.std.specs.Prelude.{◌≡◌, ℕ, ℤ, Bool, true, false, List, [], map, filter, Option, Some, None, Result, Ok, Err, if◌then◌else◌}
 use Rattle.gd_variant.specs.Words.{or_else}
 use Rattle.gd_variant.specs.declared.value.Variant.{Variant}
 use Rattle.gd_variant.specs.declared.message.Plain.{Plain}
@@ -30,7 +30,7 @@ use Rattle.headless_tree.specs.Nodes.{TreeOf, without_rows}
 use Rattle.peer_laws.specs.Shown.{is_open, values_in}
 use Rattle.peer_steps.specs.declared.rows.SpawnedRow.{SpawnedRow}
 use Rattle.peer_steps.specs.Sites.{own_made}
-use Rattle.peer_steps.specs.Peers.{Peers, comes_judged, peer_comes, peer_goes}
+use Rattle.peer_steps.specs.Peers.{Peers, peer_comes, peer_goes}
 use Rattle.peer_steps.specs.Track.{Spawned, own_spawn, shown_spawn}
 use Rattle.peer_steps.specs.Kept.{Kept, kept_tree}
 use Rattle.peer_steps.specs.Judged.{lacks_server, set_judged, set_nodes, link_judged}

@@ -1,7 +1,6 @@
 -- The peer that knows the others isn't among those that are up.
-use Rattle.std.proofs.Common.{◌≡◌, ℤ, pos, Bool, true, false, cond, not, ◌||◌, List, [], ◌∷◌, refl, ap, ◌∙◌, filter}
+use Rattle.std.proofs.Common.{◌≡◌, ℤ, pos, Bool, true, false, cond, ◌||◌, List, [], ◌∷◌, refl, ◌∙◌, filter}
 use Rattle.std.specs.Prelude.{int_lt}
-use Rattle.std.specs.List.{list_any}
 use Rattle.std.specs.Ordering.{int_eq}
 use Rattle.std.proofs.lemmas.Bool.{or_parts, or_from}
 use Rattle.gd_variant.specs.Words.{has_int, put_by}

@@ -12,9 +12,9 @@ use Rattle.relay_sys.specs.declared.peers.PeersNo.TheVariants.{BadPeer, PeersFul
 abbrev pub state_in : Peers → ℤ → PeerState
 state_in p b = if has_int b p.up then Up else if has_int b p.come then Gone else Never
 
--- a peer is taken up, or it isn't and nothing changes; where memory runs out nothing is said
+-- a peer is taken up, or it isn't and nothing changes; where memory runs out, the number alone is as it was
 abbrev pub TakesUp : Peers → ℤ → Result (Unit {0}) PeersNo → Peers → Type 0
 TakesUp old b (Ok u) new = (None, new) ≡ peer_comes b old
 TakesUp old b (Err BadPeer) new = (Some refusal.BadPeer, new) ≡ peer_comes b old
 TakesUp old b (Err PeersFull) new = (Some refusal.PeersFull, new) ≡ peer_comes b old
-TakesUp old b (Err OutOfMemory) new = Unit {0}
+TakesUp old b (Err OutOfMemory) new = new.me ≡ old.me

@@ -184,7 +184,8 @@ impl Peers {
 
     fn put(&mut self, peer: &i32) -> Result<(), OutOfMemory>
         requires { is_bad_peer self.old peer.now ≡ false }
-        ensures { OnOk result (self.new ≡ with_peer peer.now self.old) }
+        ensures put { OnOk result (self.new ≡ with_peer peer.now self.old) }
+        ensures me { self.new.me ≡ self.old.me }
     {
         note_come(&mut self.come, peer)?;
         put_number(&mut self.up, peer)?;

@@ -1,4 +1,4 @@
-use Rattle.std.proofs.Common.{◌≡◌, false, ◌∙◌, ap, sym, subst}
+use Rattle.std.proofs.Common.{◌∙◌, ap}
 use Rattle.gd_variant.specs.Words.{has_int}
 use Rattle.peer_steps.specs.Peers.{is_bad_peer}
 use Rattle.relay_sys.proofs.Apart.{put_apart}
