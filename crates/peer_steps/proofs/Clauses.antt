@@ -14,7 +14,7 @@ use Rattle.scene_model.specs.declared.outcome.Fault.{Fault as FaultOf}
 use Rattle.scene_model.specs.declared.outcome.Outcome.{Outcome}
 use Rattle.scene_model.specs.declared.scene.Scene.{Scene}
 use Rattle.scene_model.specs.Valid.{IsValidScene}
-use Rattle.peer_model.specs.Heard.{Heard}
+use Rattle.peer_model.specs.Heard.{Who, Heard}
 use Rattle.peer_model.specs.View.{report_of, row_of}
 use Rattle.peer_model.specs.Bytes.{PacketForm}
 use Rattle.peer_laws.proofs.TreeStart.{tree_start}
@@ -54,34 +54,44 @@ step_unchanged form k j e o made h = ap (λ (t : Taken). t.kept) made ∙ kept_s
 pub reported : (k : Kept) (es : List Heard) → HasParts k es → record { peers = k.peers.up; rows = map row_of k.nodes } ≡ report_of k.who es
 reported k es h = ap₂ (λ us ns. record { peers = us; rows = map row_of ns }) h.up h.nodes
 
--- a peer keeps its number and its scene, whatever it takes
+-- a peer keeps its number and its scene, and isn't spent by what it takes
 
-message_who : (k : Kept) (from : ℤ) (s : Option SpawnMsg) → (message_taken k from s).kept.who ≡ k.who
-message_who k from None = refl
-message_who k from (Some s) = refl
+-- what no event changes
+abbrev rest : Kept → Who × Bool
+rest k = (k.who, k.spent)
 
-linked_who : (k : Kept) (from : ℤ) (m : Message) (o : Option FaultOf) → (linked_taken k from m o).kept.who ≡ k.who
-linked_who k from m (Some f) = refl
-linked_who k from m None = message_who k from (spawn_read m)
+message_rest : (k : Kept) (from : ℤ) (s : Option SpawnMsg) → rest (message_taken k from s).kept ≡ rest k
+message_rest k from None = refl
+message_rest k from (Some s) = refl
 
-read_who : (k : Kept) (from : ℤ) (r : Result Message Bad) → (read_taken k from r).kept.who ≡ k.who
-read_who k from (Err bad) = refl
-read_who k from (Ok m) = linked_who k from m (link_judged k.peers from)
+linked_rest : (k : Kept) (from : ℤ) (m : Message) (o : Option FaultOf) → rest (linked_taken k from m o).kept ≡ rest k
+linked_rest k from m (Some f) = refl
+linked_rest k from m None = message_rest k from (spawn_read m)
 
-link_who : (form : PacketForm) (k : Kept) (b : ℤ) (c : Bool) → (if c then unchanged k (Refused BadPeer) else up_taken form k b (peer_comes b k.peers)).kept.who ≡ k.who
-link_who form k b true = refl
-link_who form k b false = refl
+read_rest : (k : Kept) (from : ℤ) (r : Result Message Bad) → rest (read_taken k from r).kept ≡ rest k
+read_rest k from (Err bad) = refl
+read_rest k from (Ok m) = linked_rest k from m (link_judged k.peers from)
 
-op_who : (form : PacketForm) (k : Kept) (op : Operation) → (op_taken form k op).kept.who ≡ k.who
-op_who form k (Spawn o) = refl
-op_who form k (Set path prop value) = refl
-op_who form k op = refl
+link_rest : (form : PacketForm) (k : Kept) (b : ℤ) (c : Bool) → rest (if c then unchanged k (Refused BadPeer) else up_taken form k b (peer_comes b k.peers)).kept ≡ rest k
+link_rest form k b true = refl
+link_rest form k b false = refl
+
+op_rest : (form : PacketForm) (k : Kept) (op : Operation) → rest (op_taken form k op).kept ≡ rest k
+op_rest form k (Spawn o) = refl
+op_rest form k (Set path prop value) = refl
+op_rest form k op = refl
+
+same_rest : (form : PacketForm) (k : Kept) (e : Event) → rest (taken form k e).kept ≡ rest k
+same_rest form k (Up b) = link_rest form k b (lacks_server k.peers.me b)
+same_rest form k (Down b) = refl
+same_rest form k (Op op) = op_rest form k op
+same_rest form k (Received from class bytes) = read_rest k from (form.read_packet bytes)
 
 pub same_who : (form : PacketForm) (k : Kept) (e : Event) → (taken form k e).kept.who ≡ k.who
-same_who form k (Up b) = link_who form k b (lacks_server k.peers.me b)
-same_who form k (Down b) = refl
-same_who form k (Op op) = op_who form k op
-same_who form k (Received from class bytes) = read_who k from (form.read_packet bytes)
+same_who form k e = ap (λ (r : Who × Bool). r.0) (same_rest form k e)
 
 pub step_who : (form : PacketForm) (k j : Kept) (e : Event) (o : Outcome) → record { outcome = o; kept = j } ≡ taken form k e → j.who ≡ k.who
 step_who form k j e o made = ap (λ (t : Taken). t.kept.who) made ∙ same_who form k e
+
+pub step_spent : (form : PacketForm) (k j : Kept) (e : Event) (o : Outcome) → record { outcome = o; kept = j } ≡ taken form k e → j.spent ≡ k.spent
+step_spent form k j e o made = ap (λ (t : Taken). t.kept.spent) made ∙ ap (λ (r : Who × Bool). r.1) (same_rest form k e)
