@@ -1,9 +1,4 @@
-pub mod KeptRight
-pub mod TakenParts
-pub mod Counted
-pub mod RightAfter
-pub mod ReceivedParts
-pub mod PeerCalls
+pub mod Taken
 pub mod Distinct
 pub mod SpawnProps
 pub mod Encodable

@@ -1,5 +1,2 @@
-pub mod Links
-pub mod Rights
 pub mod Parts
-pub mod Arrivals
 pub mod Forms

@@ -1,8 +1,8 @@
-//! What an accepted event does.
-ghost use Rattle.std.specs.Prelude.{◌≡◌};
-ghost use Rattle.peer_steps.specs.Steps.{done_with};
+//! What an event that is no spawn of this peer is answered with.
+ghost use Rattle.std.specs.Prelude.{◌≡◌, []};
+ghost use Rattle.peer_steps.specs.Steps.{done_with, set_answer, shown_answer};
 
-use scene_model::{Effects, OutList, Outcome};
+use scene_model::{Effects, Fault, OutList, Outcome, Refusal};
 use sqlite_items::Items;
 use std::alloc::Global;
 
@@ -16,4 +16,31 @@ pub fn done(alloc: Global, packets: OutList) -> Outcome
         raws: Items::new(alloc),
         skips: Items::new(alloc),
     })
+}
+
+/// Nothing.
+pub fn quiet(alloc: Global) -> Outcome
+    ensures { result ≡ done_with [] }
+{
+    done(alloc, Items::new(alloc))
+}
+
+/// A refusal, where there is one.
+pub fn refused_or_quiet(alloc: Global, refused: Option<Refusal>) -> Outcome
+    ensures { result ≡ set_answer refused }
+{
+    match refused {
+        Some(refusal) => Outcome::Refused(refusal),
+        None => quiet(alloc),
+    }
+}
+
+/// A fault, where there is one.
+pub fn fault_or_quiet(alloc: Global, fault: Option<Fault>) -> Outcome
+    ensures { result ≡ shown_answer fault }
+{
+    match fault {
+        Some(fault) => Outcome::Fault(fault),
+        None => quiet(alloc),
+    }
 }

@@ -5,12 +5,10 @@
 
 mod effects;
 mod links;
-mod making;
+mod messages;
 mod peer;
-mod receiving;
 mod reporting;
 mod sending;
 mod setting;
-mod taking;
 
 pub use peer::{Peer, Stop};

@@ -1,31 +1,26 @@
 //! A peer, which takes one event after the other.
-ghost use Rattle.std.specs.Prelude.{◌≡◌, ◌∷◌, [], List, ℤ, pos, true, false, ◌↔◌, ◌≤ℤ◌, IfOk, OnOk, OnErr, Err, map};
-ghost use Rattle.std.specs.List.{list_all};
+ghost use Rattle.std.specs.Prelude.{◌≡◌, ◌∷◌, [], List, pos, true, false, ◌↔◌, ◌≤ℤ◌, IfOk, OnOk, OnErr, Err, map};
 ghost use Rattle.scene_model.specs.declared.event.Event.{Event as EventOf};
-ghost use Rattle.scene_model.specs.declared.event.Event.TheVariants.{Op as operation};
 ghost use Rattle.scene_model.specs.Valid.{IsValidScene};
 ghost use Rattle.peer_model.specs.View.{report_of, row_of};
 ghost use Rattle.peer_model.specs.Bytes.{accepted_events};
-ghost use Rattle.headless_tree.specs.Nodes.{fixed_nodes};
-ghost use Rattle.peer_laws.specs.Built.{is_built_op};
 ghost use Rattle.peer_core.specs.declared.peer.Stop.TheVariants as stop;
-ghost use Rattle.peer_steps.specs.Rights.{has_right_values, is_before};
-ghost use Rattle.peer_core.specs.Rights.{AreRight};
-ghost use Rattle.peer_steps.specs.Sound.{is_sound_op, is_sound_event};
-ghost use Rattle.peer_core.specs.Parts.{kept_of};
+ghost use Rattle.peer_steps.specs.Kept.{new_peer};
+ghost use Rattle.peer_steps.specs.Sound.{is_sound_event};
 ghost use Rattle.peer_steps.specs.Stands.{StandsFor, is_built_event, is_answered, built_answer};
 ghost use Rattle.peer_steps.specs.Steps.{taken, is_done};
 ghost use Rattle.peer_core.specs.Forms.{packet_form};
 
-use crate::links::Link;
-use crate::receiving::take_packet;
+mod linking;
+mod operating;
+mod receiving;
+
 use crate::reporting::report_with;
-use crate::taking::{take_down, take_set, take_spawn, take_up};
 use gd_variant::OutOfMemory;
 use headless_tree::Tree;
-use indexmap::IndexSet;
-use peer_steps::SpawnedRow;
-use scene_model::{Event, Op, Outcome, Refusal, Report, Scene};
+use relay_sys::Peers;
+use scene_model::{Event, Outcome, Report, Scene};
+use spawn_track::Track;
 use std::alloc::Global;
 use std::marker::Model;
 
@@ -38,102 +33,16 @@ pub enum Stop {
     Spent,
 }
 
-/// An operation. The value of an assignment is copied.
-fn take_operation(
-    alloc: Global,
-    id: &i32,
-    links: &[Link],
-    tree: &mut Tree,
-    next: &mut u32,
-    rows: &mut Vec<SpawnedRow>,
-    op: &Op,
-) -> Result<Outcome, OutOfMemory>
-    requires valid { IsValidScene tree.old.scene }
-    requires values { list_all has_right_values tree.old.nodes ≡ true }
-    requires before { list_all (is_before id.now next.old) tree.old.nodes ≡ true }
-    requires built { is_built_op op.now ≡ true }
-    requires sound { is_sound_op op.now ≡ true }
-    ensures taken { (come : List ℤ) → IfOk result (λ o. record { outcome = o; kept = kept_of id.now come links.now tree.new next.new rows.new.items } ≡ taken packet_form (kept_of id.now come links.now tree.old next.old rows.old.items) (operation op.now)) }
-    ensures right { (come : List ℤ) → AreRight id.now come links.now tree.old next.old rows.old.items → OnOk result (AreRight id.now come links.now tree.new next.new rows.new.items) }
-{
-    match op {
-        Op::Spawn(op) => take_spawn(alloc, id, links, tree, next, rows, op),
-        Op::Set { path, prop, value } => {
-            let value = value.try_clone(alloc)?;
-            Ok(take_set(alloc, id, tree, path, prop, value))
-        }
-        Op::Custom(_)
-        | Op::Despawn { .. }
-        | Op::Public { .. }
-        | Op::For { .. }
-        | Op::Filter { .. }
-        | Op::Call(_)
-        | Op::Raw { .. }
-        | Op::Frame => Ok(Outcome::Refused(Refusal::NotBuilt)),
-    }
-}
-
-/// An event, as it is seen.
-fn take_seen(
-    alloc: Global,
-    id: &i32,
-    come: &mut IndexSet<i32>,
-    links: &mut Vec<Link>,
-    tree: &mut Tree,
-    next: &mut u32,
-    rows: &mut Vec<SpawnedRow>,
-    event: &Event,
-) -> Result<Outcome, OutOfMemory>
-    requires right { AreRight id.now come.old.keys links.old.items tree.old next.old rows.old.items }
-    requires built { is_built_event event.now ≡ true }
-    requires sound { is_sound_event event.now ≡ true }
-    ensures taken { IfOk result (λ o. record { outcome = o; kept = kept_of id.now come.new.keys links.new.items tree.new next.new rows.new.items } ≡ taken packet_form (kept_of id.now come.old.keys links.old.items tree.old next.old rows.old.items) event.now) }
-    ensures right { OnOk result (AreRight id.now come.new.keys links.new.items tree.new next.new rows.new.items) }
-{
-    match event {
-        Event::Up(peer) => take_up(alloc, id, come, links, tree, rows, peer),
-        Event::Down(peer) => Ok(take_down(alloc, links, tree, peer)),
-        Event::Op(op) => take_operation(alloc, id, links, tree, next, rows, op),
-        Event::Received {
-            from,
-            class: _,
-            bytes,
-        } => take_packet(alloc, id, links, tree, from, bytes.as_slice()),
-    }
-}
-
-/// An event.
-fn take(
-    alloc: Global,
-    id: &i32,
-    come: &mut IndexSet<i32>,
-    links: &mut Vec<Link>,
-    tree: &mut Tree,
-    next: &mut u32,
-    rows: &mut Vec<SpawnedRow>,
-    event: Event,
-) -> Result<Outcome, OutOfMemory>
-    requires right { AreRight id.now come.old.keys links.old.items tree.old next.old rows.old.items }
-    requires built { is_built_event event ≡ true }
-    requires sound { is_sound_event event ≡ true }
-    ensures taken { IfOk result (λ o. record { outcome = o; kept = kept_of id.now come.new.keys links.new.items tree.new next.new rows.new.items } ≡ taken packet_form (kept_of id.now come.old.keys links.old.items tree.old next.old rows.old.items) event) }
-    ensures right { OnOk result (AreRight id.now come.new.keys links.new.items tree.new next.new rows.new.items) }
-{
-    take_seen(alloc, id, come, links, tree, next, rows, &event)
-}
-
-/// One peer over any valid scene.
+/// One peer over any valid scene, made of parts: the other peers, the nodes, and its own rows.
 ///
 /// It takes events one after the other. After want of memory it is spent, and says so from then on.
+/// `spent` stands while a part is written, so that a part left half made is never read.
 #[derive(Drop)]
 pub struct Peer {
-    id: i32,
     spent: bool,
-    come: IndexSet<i32>,
-    links: Vec<Link>,
+    peers: Peers,
     tree: Tree,
-    next: u32,
-    rows: Vec<SpawnedRow>,
+    track: Track,
 }
 
 impl Model for Peer {
@@ -141,16 +50,16 @@ impl Model for Peer {
     ghost use Rattle.std.specs.Coded.{codes};
     ghost use Rattle.gd_variant.specs.contracts.value.Variant as variant;
     ghost use Rattle.peer_steps.specs.Kept.{Kept};
+    ghost use Rattle.peer_steps.specs.Fits.{Fits};
     ghost use Rattle.peer_core.specs.Parts.{parts_kept};
-    ghost use Rattle.peer_core.specs.Rights.{AreRight};
 
     ghost Value = { Kept };
 
     ghost coded = { Prim.hlevel (codes, variant.the_row.coded) };
 
-    ghost view = { λ p. parts_kept p.id p.spent p.come.keys p.links.items p.tree p.next p.rows.items };
+    ghost view = { λ p. parts_kept p.spent p.peers p.tree p.track };
 
-    ghost invariant = { λ p. p.spent ≡ false → AreRight p.id p.come.keys p.links.items p.tree p.next p.rows.items };
+    ghost invariant = { λ p. p.spent ≡ false → Fits p.peers.me p.tree p.track };
 }
 
 impl Peer {
@@ -158,18 +67,15 @@ impl Peer {
     pub fn new(alloc: Global, id: i32, scene: &Scene) -> Result<Peer, OutOfMemory>
         requires id { pos 1 ≤ℤ id }
         requires scene { IsValidScene scene.now }
-        ensures fresh { IfOk result (λ p. p ≡ record { who = record { id = id; scene = scene.now }; spent = false; come = []; up = []; nodes = fixed_nodes scene.now; next = 1; rows = [] }) }
+        ensures fresh { IfOk result (λ p. p ≡ new_peer scene.now id) }
         ensures stands { IfOk result (λ p. StandsFor packet_form p []) }
     {
         let tree = Tree::new(alloc, scene)?;
         Ok(Peer {
-            id,
             spent: false,
-            come: IndexSet::new(alloc),
-            links: Vec::new(alloc),
+            peers: Peers::new(alloc, id),
             tree,
-            next: 1,
-            rows: Vec::new(alloc),
+            track: Track::new(alloc),
         })
     }
 
@@ -177,7 +83,7 @@ impl Peer {
     pub fn id(&self) -> i32
         ensures { result ≡ self.now.who.id }
     {
-        self.id
+        self.peers.me()
     }
 
     /// A scene equal to the one that the peer was made of.
@@ -221,20 +127,12 @@ impl Peer {
         ensures spends { OnErr result (self.new.spent ≡ true) }
         ensures lives { OnOk result (self.new.spent ≡ false) }
         ensures same_id { self.new.who.id ≡ self.old.who.id }
+        ensures same_who { OnOk result (self.new.who ≡ self.old.who) }
     {
         if self.spent {
             return Err(Stop::Spent);
         }
-        match take(
-            alloc,
-            &self.id,
-            &mut self.come,
-            &mut self.links,
-            &mut self.tree,
-            &mut self.next,
-            &mut self.rows,
-            event,
-        ) {
+        match self.take(alloc, event) {
             Ok(outcome) => Ok(outcome),
             Err(OutOfMemory) => {
                 self.spent = true;
@@ -243,16 +141,45 @@ impl Peer {
         }
     }
 
+    fn take(&mut self, alloc: Global, event: Event) -> Result<Outcome, OutOfMemory>
+        requires live { self.old.spent ≡ false }
+        requires built { is_built_event event ≡ true }
+        requires sound { is_sound_event event ≡ true }
+        ensures taken { IfOk result (λ o. record { outcome = o; kept = self.new } ≡ taken packet_form self.old event) }
+        ensures same_id { self.new.who.id ≡ self.old.who.id }
+    {
+        self.take_seen(alloc, &event)
+    }
+
+    fn take_seen(&mut self, alloc: Global, event: &Event) -> Result<Outcome, OutOfMemory>
+        requires live { self.old.spent ≡ false }
+        requires built { is_built_event event.now ≡ true }
+        requires sound { is_sound_event event.now ≡ true }
+        ensures taken { IfOk result (λ o. record { outcome = o; kept = self.new } ≡ taken packet_form self.old event.now) }
+        ensures same_id { self.new.who.id ≡ self.old.who.id }
+    {
+        match event {
+            Event::Up(peer) => self.take_up(alloc, peer),
+            Event::Down(peer) => Ok(self.take_down(alloc, peer)),
+            Event::Op(op) => self.operate(alloc, op),
+            Event::Received {
+                from,
+                class: _,
+                bytes,
+            } => self.take_packet(alloc, from, bytes.as_slice()),
+        }
+    }
+
     /// The peers that are up, and every node with its values.
     pub fn report(&self, alloc: Global) -> Result<Report, Stop>
         ensures report { (es : List EventOf) → StandsFor packet_form self.now es → IfOk result (λ r. r ≡ report_of self.now.who (accepted_events packet_form self.now.who es)) }
-        ensures kept { IfOk result (λ r. r ≡ record { peers = self.now.up; rows = map row_of self.now.nodes }) }
+        ensures kept { IfOk result (λ r. r ≡ record { peers = self.now.peers.up; rows = map row_of self.now.nodes }) }
         ensures was_spent { result ≡ Err stop.Spent ↔ self.now.spent ≡ true }
     {
         if self.spent {
             return Err(Stop::Spent);
         }
-        match report_with(alloc, &self.links, &self.tree) {
+        match report_with(alloc, self.peers.up_now(), &self.tree) {
             Ok(report) => Ok(report),
             Err(OutOfMemory) => Err(Stop::OutOfMemory),
         }

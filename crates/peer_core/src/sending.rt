@@ -11,13 +11,11 @@ ghost use Rattle.peer_model.specs.Rows.{syncs_at};
 ghost use Rattle.peer_model.specs.Updates.{all_spawn_props};
 ghost use Rattle.headless_tree.specs.Nodes.{value_at};
 ghost use Rattle.peer_laws.specs.Shown.{values_in};
-ghost use Rattle.peer_core.specs.Links.{peers_of};
 ghost use Rattle.peer_steps.specs.Rights.{has_right_values, is_right_row};
 ghost use Rattle.peer_steps.specs.Steps.{row_packet, sent_to, open_rows};
 ghost use Rattle.peer_core.specs.Forms.{packet_form};
 ghost use Rattle.peer_steps.specs.Calls.{shown_to_each};
 
-use crate::links::Link;
 use gd_variant::{Bytes, Message, OutOfMemory, Plain, Text, ValueList, Variant};
 use headless_tree::Tree;
 use packet_codec::encode_packet;
@@ -153,13 +151,13 @@ pub fn show_all(
 }
 
 /// A packet for each of these peers.
-fn copies(alloc: Global, links: &[Link], packet: &Bytes) -> Result<OutList, OutOfMemory>
-    ensures { IfOk result (λ out. out ≡ map (λ b. record { link = b; to = b; class = Class.Reliable; tick = None; bytes = packet.now }) (peers_of links.now)) }
+fn copies(alloc: Global, peers: &[i32], packet: &Bytes) -> Result<OutList, OutOfMemory>
+    ensures { IfOk result (λ out. out ≡ map (λ b. record { link = b; to = b; class = Class.Reliable; tick = None; bytes = packet.now }) peers.now) }
 {
     let mut out = Items::new(alloc);
-    for link in links {
+    for peer in peers {
         let bytes = Bytes::from_slice(alloc, packet.as_slice())?;
-        out.push(parcel(&link.peer, bytes))?;
+        out.push(parcel(peer, bytes))?;
     }
     Ok(out)
 }
@@ -168,17 +166,17 @@ fn copies(alloc: Global, links: &[Link], packet: &Bytes) -> Result<OutList, OutO
 pub fn show_to_each(
     alloc: Global,
     tree: &Tree,
-    links: &[Link],
+    up: &[i32],
     row: &SpawnedRow,
 ) -> Result<OutList, OutOfMemory>
     requires valid { IsValidScene tree.now.scene }
     requires values { list_all has_right_values tree.now.nodes ≡ true }
     requires row { is_right_row tree.now.scene row.now ≡ true }
-    ensures { IfOk result (λ out. out ≡ shown_to_each packet_form tree.now.scene tree.now.nodes (peers_of links.now) row.now) }
+    ensures { IfOk result (λ out. out ≡ shown_to_each packet_form tree.now.scene tree.now.nodes up.now row.now) }
 {
     if !is_open(tree.scene(), row.place) {
         return Ok(Items::new(alloc));
     }
     let packet = packet_of(alloc, tree, row)?;
-    copies(alloc, links, &packet)
+    copies(alloc, up, &packet)
 }

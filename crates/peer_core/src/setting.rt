@@ -1,8 +1,8 @@
 //! Assignments to properties.
 ghost use Rattle.std.specs.Prelude.{◌≡◌, Some, None};
 ghost use Rattle.headless_tree.specs.Nodes.{live};
-ghost use Rattle.peer_steps.specs.Judged.{set_judged};
-ghost use Rattle.peer_steps.specs.Calls.{set_at_judged, set_nodes};
+ghost use Rattle.peer_steps.specs.Judged.{set_judged, set_nodes};
+ghost use Rattle.peer_steps.specs.Calls.{set_at_judged};
 
 use gd_variant::{Text, Variant};
 use headless_tree::{NodeNow, Tree};
