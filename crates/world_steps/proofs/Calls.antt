@@ -1,9 +1,9 @@
 -- What an event makes of a world, whatever it stands for: an event that doesn't happen leaves it as it is, and the scene stays; and what a world that stands for a script answers and reports.
-use Rattle.std.proofs.Common.{◌≡◌, ℕ, ℤ, pos, Bool, true, false, not, ◌&&◌, ◌||◌, List, [], ◌∷◌, ◌++◌, length, map, refl, sym, ap, ap₂, ◌∙◌, subst, is_some, Option, Some, None, Result, Ok, Err}
+use Rattle.std.proofs.Common.{◌≡◌, ℕ, ℤ, pos, Bool, true, false, not, ◌&&◌, ◌||◌, List, [], ◌∷◌, refl, sym, ap, ap₂, ◌∙◌, subst, is_some, Option, Some, None, Result, Ok, Err}
 use Rattle.std.specs.Prelude.{slice_get, option_map, option_and_then, IfOk, ◌↔◌, if◌then◌else◌}
-use Rattle.std.specs.List.{slice_set, list_all}
+use Rattle.std.specs.List.{list_all}
 use Rattle.std.specs.Ordering.{int_eq}
-use Rattle.std.proofs.lemmas.Bool.{true≢false, and_parts}
+use Rattle.std.proofs.lemmas.Bool.{true≢false, and_from}
 use Rattle.std.proofs.lemmas.List.{append-nil}
 use Rattle.gd_variant.specs.Sound.{is_text}
 use Rattle.gd_variant.specs.declared.message.Message.{Message}
@@ -31,25 +31,26 @@ use Rattle.peer_laws.proofs.Numbers.{int_is}
 use Rattle.peer_steps.specs.Kept.{Kept}
 use Rattle.peer_steps.specs.Spawns.{shown_judged}
 use Rattle.peer_steps.specs.Judged.{link_judged}
-use Rattle.peer_steps.specs.Steps.{taken, shown_taken, message_taken, linked_taken, read_taken, spawn_read, is_done}
+use Rattle.peer_steps.specs.Steps.{taken, shown_answer, message_taken, linked_taken, read_taken, spawn_read, is_done}
 use Rattle.peer_core.specs.Forms.{packet_form}
 use Rattle.peer_steps.proofs.Whole.{kept_still}
-use Rattle.world_model.specs.World.{World, peer_of, is_in}
-use Rattle.world_model.specs.Happens.{world, happens, packets_in}
+use Rattle.peer_steps.proofs.Clauses.{same_who}
+use Rattle.peer_steps.proofs.Clauses.{start_stands as new_peer_stands}
+use Rattle.world_model.specs.World.{World, is_in}
+use Rattle.world_model.specs.Happens.{world, packets_in}
 use Rattle.world_model.specs.Answers.{has_no_link, peer_answer, world_answer, happened}
 use Rattle.world_model.specs.Replicas.{reported}
 use Rattle.channel_laws.proofs.Links.{channels}
-use Rattle.world_steps.specs.Sound.{has_sound, has_sound_values, is_built_event, is_sound_event}
-use Rattle.world_steps.specs.Steps.{Parts, Made, Client, scene_of, live_parts, first_parts, number_after, place_of, client_at, has_peer, waiting_with, with_down, with_packets, with_client as set_client, unchanged, is_full, connect_as, connect_made, server_made, client_made, client_does, does_at, op_made, deliver_down, deliver_up, delivers_of, delivers_at, rel_made, made, kept_at, kept_report, is_spent}
+use Rattle.world_steps.specs.Sound.{has_sound, has_sound_values, has_text_name, is_built_event, is_sound_event}
+use Rattle.world_steps.specs.Steps.{Parts, Made, Client, scene_of, first_parts, number_after, place_of, client_at, has_peer, waiting_with, with_packets, with_client as set_client, unchanged, is_full, connect_as, connect_made, server_made, client_made, client_does, does_at, op_made, deliver_down, deliver_up, delivers_of, delivers_at, rel_made, made, kept_at, kept_report, is_spent}
 use Rattle.world_steps.specs.Scripts.{Happened}
 use Rattle.world_steps.specs.Stands.{IsPeer, HasParts, StandsForScript, StepsAreRight}
 use Rattle.world_steps.proofs.Lists.{set_same}
 use Rattle.world_steps.proofs.Happenings.{runs}
-use Rattle.world_steps.proofs.Peers.{same_who}
 use Rattle.world_steps.proofs.Places.{client_there}
 use Rattle.world_steps.proofs.Places as places
 use Rattle.world_steps.proofs.Reports.{kept_same}
-use Rattle.world_steps.proofs.Steps.{RightAt, Before, new_stands, step_right}
+use Rattle.world_steps.proofs.Steps.{RightAt, Before, step_right}
 
 -- an event that doesn't happen
 
@@ -108,13 +109,13 @@ connect_still v = by_room (is_full v.come v.clients)
 
 -- a received packet is never refused
 
-shown_happens : (k : Kept) (from p : ℤ) (s : SpawnMsg) (o : Option FaultOf) → happened (peer_answer p (shown_taken k from s o).outcome) ≡ true
-shown_happens k from p s (Some f) = refl
-shown_happens k from p s None = refl
+shown_happens : (p : ℤ) (o : Option FaultOf) → happened (peer_answer p (shown_answer o)) ≡ true
+shown_happens p (Some f) = refl
+shown_happens p None = refl
 
 message_happens : (k : Kept) (from p : ℤ) (s : Option SpawnMsg) → happened (peer_answer p (message_taken k from s).outcome) ≡ true
 message_happens k from p None = refl
-message_happens k from p (Some s) = shown_happens k from p s (shown_judged k.who k.nodes from s)
+message_happens k from p (Some s) = shown_happens p (shown_judged k.who.scene k.nodes from s)
 
 linked_happens : (k : Kept) (from p : ℤ) (m : Message) (o : Option FaultOf) → happened (peer_answer p (linked_taken k from m o).outcome) ≡ true
 linked_happens k from p m (Some f) = refl
@@ -122,7 +123,7 @@ linked_happens k from p m None = message_happens k from p (spawn_read m)
 
 read_happens : (k : Kept) (from p : ℤ) (r : Result Message Bad) → happened (peer_answer p (read_taken k from r).outcome) ≡ true
 read_happens k from p (Err bad) = refl
-read_happens k from p (Ok m) = linked_happens k from p m (link_judged k.who k.up from)
+read_happens k from p (Ok m) = linked_happens k from p m (link_judged k.peers from)
 
 received_happens : (k : Kept) (from p : ℤ) (class : Class) (bytes : List ℕ) → happened (peer_answer p (taken packet_form k (event.Received from class bytes)).outcome) ≡ true
 received_happens k from p class bytes = read_happens k from p (packet_form.read_packet bytes)
@@ -230,7 +231,7 @@ start_stands v s is valid = subst (λ x. StandsForScript x []) (sym is) (record 
   happened = tt;
   parts = record {
     live = refl;
-    server = record { who = refl; stands = new_stands s server valid };
+    server = record { who = refl; stands = new_peer_stands packet_form s server valid };
     come = refl;
     numbers = refl;
     clients = λ i c at. absurd (cc at);
@@ -332,23 +333,23 @@ never_spent v es p h = by_kept (kept_at v p) refl
     by_kept None e k = absurd (cc k)
     by_kept (Some y) e k = let live = (kept_stands v es p y h e).stands.live in absurd (cc (k, live))
 
--- a sound event has sound values
-pub sound_values : (e : WorldEvent) → is_sound_event e ≡ true → has_sound_values e ≡ true
-sound_values Connect h = refl
-sound_values (Down p) h = refl
-sound_values (Op p (Spawn o)) h = (and_parts (is_text o.name) (list_all has_sound o.sets) h).1
-sound_values (Op p (Custom o)) h = refl
-sound_values (Op p (Despawn path)) h = refl
-sound_values (Op p (Set path prop value)) h = h
-sound_values (Op p (Public path k on)) h = refl
-sound_values (Op p (For path k peer on)) h = refl
-sound_values (Op p (Filter path k peers)) h = refl
-sound_values (Op p (Call c)) h = refl
-sound_values (Op p (Raw to class bytes)) h = refl
-sound_values (Op p Frame) h = refl
-sound_values (Rel a b) h = refl
-sound_values (Loose a b i) h = refl
-sound_values (Forge p class bytes) h = refl
+-- an event whose name is a text and whose values are sound can be written
+pub sound_event : (e : WorldEvent) → has_text_name e ≡ true → has_sound_values e ≡ true → is_sound_event e ≡ true
+sound_event Connect text h = refl
+sound_event (Down p) text h = refl
+sound_event (Op p (Spawn o)) text h = and_from (is_text o.name) (list_all has_sound o.sets) text h
+sound_event (Op p (Custom o)) text h = refl
+sound_event (Op p (Despawn path)) text h = refl
+sound_event (Op p (Set path prop value)) text h = h
+sound_event (Op p (Public path k on)) text h = refl
+sound_event (Op p (For path k peer on)) text h = refl
+sound_event (Op p (Filter path k peers)) text h = refl
+sound_event (Op p (Call c)) text h = refl
+sound_event (Op p (Raw to class bytes)) text h = refl
+sound_event (Op p Frame) text h = refl
+sound_event (Rel a b) text h = refl
+sound_event (Loose a b i) text h = refl
+sound_event (Forge p class bytes) text h = refl
 
 pub steps_are_right : StepsAreRight
 steps_are_right v es e h built sound = record {

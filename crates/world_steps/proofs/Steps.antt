@@ -1,54 +1,51 @@
 -- What any built event makes of a world is what the definitions say.
-use Rattle.std.proofs.Common.{◌≡◌, ℕ, zero, suc, ◌+◌, ◌≤◌, ℤ, pos, Bool, true, false, cond, not, ◌&&◌, ◌||◌, List, [], ◌∷◌, ◌++◌, length, map, reverse, refl, sym, ap, ap₂, ◌∙◌, subst, arith, nat_eq, is_some, Option, Some, None, Ok}
-use Rattle.std.specs.Prelude.{slice_get, is_none, option_and_then, nat_le, nat_lt, if◌then◌else◌}
+use Rattle.std.proofs.Common.{◌≡◌, ℕ, zero, suc, ◌+◌, ◌≤◌, ℤ, pos, Bool, true, false, cond, not, ◌&&◌, ◌||◌, List, [], ◌∷◌, ◌++◌, length, map, reverse, refl, sym, ap, ap₂, ◌∙◌, subst, arith, is_some, Option, Some, None}
+use Rattle.std.specs.Prelude.{slice_get, is_none, nat_le, nat_lt, if◌then◌else◌}
 use Rattle.std.specs.List.{slice_set}
 use Rattle.std.specs.Ordering.{int_eq}
 use Rattle.std.proofs.lemmas.Bool.{true≢false, and_parts, and_from, or_parts}
 use Rattle.std.proofs.lemmas.List.{length-map, map-append}
 use Rattle.gd_variant.specs.Words.{has_int, when, first_of}
 use Rattle.scene_model.specs.declared.scene.Scene.{Scene}
-use Rattle.scene_model.specs.declared.event.Event.{Event}
 use Rattle.scene_model.specs.declared.event.Event.TheVariants as event
 use Rattle.scene_model.specs.declared.event.Op.{Op as Operation}
 use Rattle.scene_model.specs.declared.outcome.Out.{Out}
 use Rattle.scene_model.specs.declared.world.WorldEvent.{WorldEvent}
 use Rattle.scene_model.specs.declared.world.WorldEvent.TheVariants.{Connect, Op, Rel}
-use Rattle.scene_model.specs.declared.world.WorldOutcome.{WorldOutcome}
 use Rattle.scene_model.specs.declared.world.WorldOutcome.TheVariants as answers
 use Rattle.scene_model.specs.declared.world.WorldNo.{WorldNo}
 use Rattle.scene_model.specs.declared.world.WorldNo.TheVariants as refusal
 use Rattle.scene_model.specs.Valid.{IsValidScene}
-use Rattle.peer_model.specs.Heard.{Who, Heard, gets, server}
+use Rattle.peer_model.specs.Heard.{Who, gets, server}
 use Rattle.peer_model.specs.Changes.{changes}
 use Rattle.peer_model.specs.Faults.{link_fault}
 use Rattle.peer_model.specs.Refusals.{most_clients}
-use Rattle.peer_model.specs.Answer.{update_packet}
-use Rattle.peer_model.specs.Bytes.{accepted_events, heard_of}
+use Rattle.peer_model.specs.Bytes.{accepted_events}
 use Rattle.peer_laws.specs.Built.{is_built_op, is_unbuilt}
 use Rattle.peer_laws.proofs.Numbers.{int_is, int_same, int_comm}
 use Rattle.peer_laws.proofs.Tests.{not_false, or_true}
 use Rattle.peer_laws.proofs.Told.{changes_never}
-use Rattle.peer_steps.specs.Kept.{Kept}
+use Rattle.peer_steps.specs.Kept.{Kept, new_peer}
 use Rattle.peer_steps.specs.Stands.{StandsFor, is_answered}
 use Rattle.peer_steps.specs.Steps.{Taken, taken}
 use Rattle.peer_core.specs.Forms.{packet_form}
 use Rattle.peer_steps.proofs.Clauses.{start_stands}
 use Rattle.world_model.specs.World.{Parcel, Way, Came, World, peer_of, is_in, clients, client_number, next_client, events_at, next_of, heard_in}
-use Rattle.world_model.specs.Happens.{packets_in, fed, by_itself, brought_by, with_client, link_up, after_next, at_way, way_with, parcels_made, delivered, happens, world, answer_at}
+use Rattle.world_model.specs.Happens.{packets_in, fed, by_itself, brought_by, with_client, link_up, after_next, at_way, delivered, happens, world, answer_at}
 use Rattle.world_model.specs.Answers.{most_number, has_no_link, refused_by, refused_or, accepted_answer, effects_in, step_of, connect_answer, peer_answer, delivery_answer, world_answer, happened}
 use Rattle.world_model.specs.Answers as model
 use Rattle.channel_laws.specs.Channels.{waiting_on}
 use Rattle.world_steps.specs.Sound.{is_built_event}
-use Rattle.world_steps.specs.Steps.{Parts, Made, Client, scene_of, live_parts, number_after, new_peer, new_client, place_of, has_peer, waiting_with, with_down, with_packets, unchanged, is_full, connect_with, connect_as, connect_made, server_made, client_made, client_does, does_at, op_made, with_client as set_client, deliver_down, deliver_up, delivers_of, delivers_at, rel_made, made}
+use Rattle.world_steps.specs.Steps.{Parts, Made, Client, scene_of, number_after, new_client, place_of, has_peer, waiting_with, with_down, with_packets, unchanged, is_full, connect_with, connect_as, connect_made, server_made, client_made, client_does, does_at, op_made, with_client as set_client, deliver_down, deliver_up, delivers_of, delivers_at, rel_made, made}
 use Rattle.world_steps.specs.Stands.{outs, IsPeer, IsClient, HasParts}
 use Rattle.world_steps.proofs.Lists.{each_set, got_within, got_set, set_again}
-use Rattle.world_steps.proofs.Numbers.{number_of, not_server, server_not, numbers_apart}
-use Rattle.world_steps.proofs.Runs.{heard_at, Core, Members, events_are, link_ends}
+use Rattle.world_steps.proofs.Numbers.{number_of, not_server, numbers_apart}
+use Rattle.world_steps.proofs.Runs.{heard_at, link_ends}
 use Rattle.world_steps.proofs.Happenings.{Run, IsArrival, arrival, arrives, sender_up, clients_are, Meets, meets}
 use Rattle.world_steps.proofs.Links.{told_parcels}
 use Rattle.world_steps.proofs.Waiting.{IsFirst, first_waits, none_waits, nothing_waits}
 use Rattle.world_steps.proofs.Peers.{IsAnswered, peer_answers}
-use Rattle.world_steps.proofs.Places.{number_in, ClientAt, client_there, there_is, numbered, as_many, reversed}
+use Rattle.world_steps.proofs.Places.{number_in, client_there, there_is, numbered, as_many, reversed}
 use Rattle.world_steps.proofs.Keeping.{Keeps, Within, took, server_keeps, client_keeps, joins_keeps, client_far, way_waits, way_more}
 
 -- What is answered, and what is kept then where the event happened.
@@ -142,9 +139,6 @@ op_right s v w p op h built = by_server (int_eq p server) refl
 
 -- a connect
 
-pub new_stands : (s : Scene) (id : ℤ) → IsValidScene s → StandsFor packet_form (new_peer s id) []
-new_stands s id valid = start_stands packet_form (new_peer s id) refl valid refl refl refl refl refl
-
 room_right : (s : Scene) (v : Parts) (w : World) → Before s v w → model.is_full w ≡ false → scene_of v ≡ s → v.come ≡ length w.come → RightAt s w Connect (connect_as v (next_client w))
 room_right s v w h room same come = subst (λ z. RightAt s w Connect (connect_with v id t (taken packet_form (new_peer z id) (event.Up server)))) (sym same) (record {
   answers =
@@ -213,7 +207,7 @@ room_right s v w h room same come = subst (λ z. RightAt s w Connect (connect_wi
     none_yet = ap (λ b. map (λ (c : Came). c.event) (if b then by_itself (event.Up id) ∷ w.history id else w.history id)) far ∙ ap (map (λ (c : Came). c.event)) (h.run.members.fresh (length w.come) (omega arith)).0
 
     alone : IsPeer s w1 id (new_peer s id)
-    alone = record { who = refl; stands = subst (StandsFor packet_form (new_peer s id)) (sym none_yet) (new_stands s id h.valid) }
+    alone = record { who = refl; stands = subst (StandsFor packet_form (new_peer s id)) (sym none_yet) (start_stands packet_form s id h.valid) }
 
     second : IsAnswered s w1 id (new_peer s id) (event.Up server)
     second = peer_answers s w1 id (new_peer s id) (event.Up server) alone refl refl

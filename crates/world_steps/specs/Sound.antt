@@ -32,6 +32,16 @@ abbrev pub is_sound_event : WorldEvent → Bool
 is_sound_event (Op p op) = is_sound_op op
 is_sound_event e = true
 
+-- whether the name of a spawn is a text; each one is that its type holds
+abbrev pub spawns_text : Operation → Bool
+spawns_text (Spawn o) = is_text o.name
+spawns_text op = true
+
+-- the same of an event
+abbrev pub has_text_name : WorldEvent → Bool
+has_text_name (Op p op) = spawns_text op
+has_text_name e = true
+
 -- whether the values of an event are sound
 abbrev pub has_sound_values : WorldEvent → Bool
 has_sound_values (Op p op) = has_sound_op op

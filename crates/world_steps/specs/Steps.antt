@@ -16,10 +16,9 @@ use Rattle.scene_model.specs.declared.report.Report.{Report}
 use Rattle.peer_model.specs.Heard.{server}
 use Rattle.peer_model.specs.View.{row_of}
 use Rattle.peer_model.specs.Refusals.{most_clients}
-use Rattle.peer_steps.specs.Kept.{Kept}
+use Rattle.peer_steps.specs.Kept.{Kept, new_peer}
 use Rattle.peer_steps.specs.Steps.{Taken, taken}
 use Rattle.peer_core.specs.Forms.{packet_form}
-use Rattle.headless_tree.specs.Nodes.{fixed_nodes}
 use Rattle.world_model.specs.World.{is_reliable}
 use Rattle.world_model.specs.Happens.{packets_in}
 use Rattle.world_model.specs.Answers.{has_no_link, effects_in, step_of, peer_answer, most_number}
@@ -80,10 +79,6 @@ waiting_with xs packets b = xs ++ filter (waits_for b) packets
 abbrev pub IsTaken : List Out → List Out → Option Out → Type 0
 IsTaken old new None = (old ≡ []) × (new ≡ [])
 IsTaken old new (Some x) = old ≡ x ∷ new
-
--- a new peer
-abbrev pub new_peer : Scene → ℤ → Kept
-new_peer s id = record { who = record { id = id; scene = s }; spent = false; come = []; up = []; nodes = fixed_nodes s; next = 1; rows = [] }
 
 -- the server alone
 abbrev pub first_parts : Scene → Parts
@@ -199,7 +194,7 @@ kept_at v p = if int_eq p server then Some v.server else option_map (λ (c : Cli
 
 -- what is reported of a peer, by what it keeps
 abbrev pub kept_report : Kept → Report
-kept_report k = record { peers = k.up; rows = map row_of k.nodes }
+kept_report k = record { peers = k.peers.up; rows = map row_of k.nodes }
 
 -- whether a peer is spent
 abbrev pub is_spent : Kept → Bool
