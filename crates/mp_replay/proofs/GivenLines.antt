@@ -1,9 +1,9 @@
--- A line that was read holds texts and sound values, as the world asks for them.
-use Rattle.std.proofs.Common.{◌≡◌, true, ◌&&◌, List, [], ◌∷◌, ◌++◌, refl, sym, ◌∙◌, subst}
+-- A line that was read holds sound values, as the world asks for them.
+use Rattle.std.proofs.Common.{◌≡◌, true, List, [], ◌∷◌, ◌++◌, refl, sym, ◌∙◌, subst}
 use Rattle.std.specs.List.{list_all}
 use Rattle.std.proofs.lemmas.Bool.{and_from, and_parts}
 use Rattle.std.proofs.lemmas.List.Folds.{list_all-append}
-use Rattle.gd_variant.specs.Sound.{is_sound, is_text}
+use Rattle.gd_variant.specs.Sound.{is_sound}
 use Rattle.scene_model.specs.declared.scene.Prop.{Prop}
 use Rattle.scene_model.specs.declared.event.SpawnOp.{SpawnOp}
 use Rattle.scene_model.specs.declared.event.Op.TheVariants.{Spawn, Custom, Despawn, Set, Public, For, Filter, Call, Raw, Frame}
@@ -12,14 +12,7 @@ use Rattle.scene_model.specs.declared.world.WorldEvent.TheVariants.{Connect, Dow
 use Rattle.line_text.specs.declared.sessions.SessionLine.{SessionLine}
 use Rattle.line_text.specs.declared.sessions.SessionLine.TheVariants as line
 use Rattle.line_text.specs.Held.{held, prop_names, prop_values, IsGivenLine}
-use Rattle.world_steps.specs.Sound.{has_sound, is_sound_event}
-
--- the name of a spawn is among its texts
-name_is_text : (o : SpawnOp) → list_all is_text (o.spawner ∷ held o.scene ++ o.name ∷ prop_names o.sets) ≡ true → is_text o.name ≡ true
-name_is_text o h =
-    let behind = (and_parts (is_text o.spawner) (list_all is_text (held o.scene ++ o.name ∷ prop_names o.sets)) h).1 in
-    let from_name = (and_parts (list_all is_text (held o.scene)) (list_all is_text (o.name ∷ prop_names o.sets)) (sym (list_all-append is_text (held o.scene) (o.name ∷ prop_names o.sets)) ∙ behind)).1 in
-    (and_parts (is_text o.name) (list_all is_text (prop_names o.sets)) from_name).0
+use Rattle.world_steps.specs.Sound.{has_sound, has_sound_values}
 
 -- settings have sound values where these are
 settings_are_sound : (ps : List Prop) → list_all is_sound (prop_values ps) ≡ true → list_all has_sound ps ≡ true
@@ -28,15 +21,13 @@ settings_are_sound (p ∷ ps) h =
     let parts = and_parts (is_sound p.value) (list_all is_sound (prop_values ps)) h in
     and_from (has_sound p) (list_all has_sound ps) parts.0 (settings_are_sound ps parts.1)
 
-spawn_is_sound : (o : SpawnOp) → list_all is_text (o.spawner ∷ held o.scene ++ o.name ∷ prop_names o.sets) ≡ true → list_all is_sound (held o.arg ++ prop_values o.sets) ≡ true → (is_text o.name && list_all has_sound o.sets) ≡ true
-spawn_is_sound o texts values =
-    and_from (is_text o.name) (list_all has_sound o.sets) (name_is_text o texts)
-    (settings_are_sound o.sets (and_parts (list_all is_sound (held o.arg)) (list_all is_sound (prop_values o.sets)) (sym (list_all-append is_sound (held o.arg) (prop_values o.sets)) ∙ values)).1)
+spawn_is_sound : (o : SpawnOp) → list_all is_sound (held o.arg ++ prop_values o.sets) ≡ true → list_all has_sound o.sets ≡ true
+spawn_is_sound o values = settings_are_sound o.sets (and_parts (list_all is_sound (held o.arg)) (list_all is_sound (prop_values o.sets)) (sym (list_all-append is_sound (held o.arg) (prop_values o.sets)) ∙ values)).1
 
-event_is_sound : (e : WorldEvent) → IsGivenLine (line.Event e) → is_sound_event e ≡ true
+event_is_sound : (e : WorldEvent) → IsGivenLine (line.Event e) → has_sound_values e ≡ true
 event_is_sound Connect g = refl
 event_is_sound (Down p) g = refl
-event_is_sound (Op p (Spawn o)) g = spawn_is_sound o g.texts g.values
+event_is_sound (Op p (Spawn o)) g = spawn_is_sound o g.values
 event_is_sound (Op p (Custom o)) g = refl
 event_is_sound (Op p (Despawn path)) g = refl
 event_is_sound (Op p (Set path prop value)) g = (and_parts (is_sound value) true g.values).0
@@ -50,5 +41,5 @@ event_is_sound (Rel a b) g = refl
 event_is_sound (Loose a b i) g = refl
 event_is_sound (Forge p class bytes) g = refl
 
-pub given_is_sound : (l : SessionLine) (e : WorldEvent) → l ≡ line.Event e → IsGivenLine l → is_sound_event e ≡ true
+pub given_is_sound : (l : SessionLine) (e : WorldEvent) → l ≡ line.Event e → IsGivenLine l → has_sound_values e ≡ true
 given_is_sound l e is g = event_is_sound e (subst IsGivenLine is g)

@@ -3,7 +3,7 @@ ghost use Rattle.std.specs.Prelude.{◌≡◌, ◌++◌, [], None, Ok, IfOk, OnO
 ghost use Rattle.line_text.specs.Scenes.{scene_line_read};
 ghost use Rattle.line_text.specs.Sessions.{session_line_read};
 ghost use Rattle.line_runs.specs.Steps.{Takes};
-ghost use Rattle.world_steps.specs.Sound.{is_built_event, is_sound_event};
+ghost use Rattle.world_steps.specs.Sound.{has_sound_values, is_built_event};
 ghost use Rattle.line_text.specs.Held.{IsGivenLine};
 ghost use Rattle.mp_replay.specs.Ends.{AnyReason};
 ghost use Rattle.mp_replay.specs.Sessions.{Begins, HoldsIn, Session as SessionOf, Took, after_line, line_given, line_text as line_text_of, no_scene, replay_told, report_text as report_text_of, with_event, world_of};
@@ -63,7 +63,7 @@ fn report_of(alloc: Global, world: &World, n: u64, peer: i32) -> Result<Bytes, O
 /// Lets an event happen.
 fn happen(alloc: Global, world: &mut World, event: WorldEvent) -> Result<WorldOutcome, OutOfMemory>
     requires built { is_built_event event ≡ true }
-    requires sound { is_sound_event event ≡ true }
+    requires sound { has_sound_values event ≡ true }
     ensures answers { (s : SessionOf) → HoldsIn s world.old → IfOk result (λ o. o ≡ world_answer packet_form s.scene (world_of s) event) }
     ensures holds { (s : SessionOf) → HoldsIn s world.old → OnOk result (HoldsIn (with_event s event) world.new) }
 {

@@ -1,5 +1,5 @@
 -- From what the code of a step says of its parts to what the step makes.
-use Rattle.std.proofs.Common.{◌≡◌, ℕ, ◌+◌, ◌<◌, is_some, ℤ, pos, List, length, subst, [], ◌∷◌, ◌++◌, refl, sym, ap, ap₂, ◌∙◌, Option, Some, None, Result, Ok, Err}
+use Rattle.std.proofs.Common.{◌≡◌, ℕ, ◌<◌, is_some, ℤ, pos, List, length, subst, [], ◌∷◌, refl, sym, ap, ap₂, ◌∙◌, Option, Some, None, Result, Ok, Err}
 use Rattle.std.specs.Prelude.{IfOk, OnOk, MatchOption, slice_get, slice_index_or, ◌&&◌, ◌||◌, not, if◌then◌else◌, true, false, Bool}
 use Rattle.std.specs.List.{slice_set}
 use Rattle.std.specs.Ordering.{int_eq}
@@ -13,12 +13,12 @@ use Rattle.scene_model.specs.declared.world.WorldOutcome.{WorldOutcome}
 use Rattle.scene_model.specs.declared.world.WorldOutcome.TheVariants as answers
 use Rattle.scene_model.specs.declared.world.WorldNo.TheVariants as refusal
 use Rattle.peer_model.specs.Heard.{server}
-use Rattle.peer_steps.specs.Kept.{Kept}
+use Rattle.peer_steps.specs.Kept.{Kept, new_peer}
 use Rattle.peer_steps.specs.Steps.{Taken, taken}
 use Rattle.peer_core.specs.Forms.{packet_form}
 use Rattle.world_model.specs.Happens.{packets_in}
-use Rattle.world_model.specs.Answers.{has_no_link, effects_in, step_of, peer_answer}
-use Rattle.world_steps.specs.Steps.{Client, Parts, Made, scene_of, live_parts, place_of, has_peer, new_client, new_peer, waiting_with, with_packets, with_client, unchanged, is_full, number_after, connect_as, connect_made, server_made, client_made, client_does, does_at, op_made, deliver_down, deliver_up, delivers_of, delivers_at, rel_made, IsTaken}
+use Rattle.world_model.specs.Answers.{has_no_link, peer_answer}
+use Rattle.world_steps.specs.Steps.{Client, Parts, Made, live_parts, place_of, has_peer, new_client, waiting_with, with_packets, with_client, unchanged, is_full, number_after, connect_as, connect_made, server_made, client_made, client_does, does_at, op_made, deliver_down, deliver_up, delivers_of, delivers_at, rel_made, IsTaken}
 use Rattle.world_steps.proofs.Links.{some_same}
 use Rattle.world_steps.proofs.Lists.{set_same}
 use Rattle.world_steps.proofs.Places.{client_there}

@@ -3,11 +3,12 @@ ghost use Rattle.std.specs.Prelude.{◌≡◌, ◌∷◌, ◌++◌, ◌+◌, ℕ
 ghost use Rattle.scene_model.specs.Valid.{IsValidScene};
 ghost use Rattle.scene_model.specs.declared.event.Event.TheVariants as event_of;
 ghost use Rattle.peer_model.specs.Heard.{server as server_id};
+ghost use Rattle.peer_steps.specs.Kept.{new_peer};
 ghost use Rattle.peer_steps.specs.Steps.{taken};
 ghost use Rattle.peer_core.specs.Forms.{packet_form};
 ghost use Rattle.world_model.specs.Happens.{packets_in};
 ghost use Rattle.world_model.specs.Answers.{effects_in, step_of};
-ghost use Rattle.world_steps.specs.Steps.{connect_as as made_as, connect_made, is_full as has_no_room, live_parts, new_client as client_made_of, new_peer, number_after};
+ghost use Rattle.world_steps.specs.Steps.{connect_as as made_as, connect_made, is_full as has_no_room, live_parts, new_client as client_made_of, number_after};
 
 use crate::client::Client;
 use crate::steps::{SERVER, effects_of, send_down, send_up, step};

@@ -8,6 +8,7 @@ mod connect;
 mod deliver;
 mod operate;
 mod steps;
+mod texts;
 mod way;
 mod world;
 

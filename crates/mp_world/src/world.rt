@@ -9,7 +9,7 @@ ghost use Rattle.world_model.specs.Answers.{happened, world_answer};
 ghost use Rattle.world_model.specs.Replicas.{reported};
 ghost use Rattle.mp_world.specs.declared.world.WorldStop.TheVariants as stop;
 ghost use Rattle.mp_world.specs.declared.world.ReportNo.TheVariants as report_no;
-ghost use Rattle.world_steps.specs.Sound.{has_sound_values, is_built_event, is_sound_event};
+ghost use Rattle.world_steps.specs.Sound.{has_sound_values, is_built_event};
 ghost use Rattle.world_steps.specs.Steps.{has_peer, is_spent, kept_at, kept_report, live_parts, made as made_of, scene_of};
 ghost use Rattle.world_steps.specs.Stands.{StandsForScript};
 
@@ -18,6 +18,7 @@ use crate::connect::connect;
 use crate::deliver::deliver;
 use crate::operate::operate;
 use crate::steps::{SERVER, is_server};
+use crate::texts::names_are_texts;
 use gd_variant::OutOfMemory;
 use peer_core::{Peer, Stop};
 use scene_model::{Report, Scene, WorldEvent, WorldOutcome};
@@ -143,7 +144,7 @@ impl World {
     /// Where the world or a peer refuses the event, nothing changes.
     pub fn step(&mut self, alloc: Global, event: WorldEvent) -> Result<WorldOutcome, WorldStop>
         requires built { is_built_event event ≡ true }
-        requires sound { is_sound_event event ≡ true }
+        requires sound { has_sound_values event ≡ true }
         // the answer of the definitions, for every script that the world stands for
         ensures answer { (es : List EventOf) → StandsForScript self.old es → IfOk result (λ o. o ≡ world_answer packet_form (scene_of self.old) (world packet_form (scene_of self.old) es) event) }
         // afterwards it stands for that script with this event, where it happened
@@ -156,6 +157,7 @@ impl World {
         if self.spent {
             return Err(WorldStop::Spent);
         }
+        names_are_texts(&event);
         match take(
             &mut self.server,
             &mut self.clients,

@@ -1,6 +1,6 @@
 use Rattle.std.proofs.Common.{rules, ap, ◌∙◌, w32}
 use Rattle.std.proofs.lemmas.Int.{to_z-of_z}
-use Rattle.world_steps.specs.Steps.{new_peer}
+use Rattle.peer_steps.specs.Kept.{new_peer}
 use Rattle.mp_world.proofs.Takes.{new_client_is}
 use Rattle.mp_world.proofs.connect.new_client.Goals as goal
 

@@ -1,7 +1,7 @@
 use Rattle.std.proofs.Common.{sym, subst}
 use Rattle.scene_model.specs.Valid.{IsValidScene}
 use Rattle.world_steps.specs.Steps.{live_parts}
-use Rattle.world_steps.proofs.Calls.{step_answers, step_scene, step_stands, step_unchanged, sound_values}
+use Rattle.world_steps.proofs.Calls.{step_answers, step_scene, step_stands, step_unchanged, sound_event}
 use Rattle.mp_world.proofs.Fields.{step_is}
 use Rattle.mp_world.proofs.world.World.step.Goals as goal
 
@@ -14,7 +14,7 @@ returns-in-Ok-clause-answer c = λ es h.
 
 pub returns-in-Ok-clause-stands : goal.returns-in-Ok-clause-stands
 returns-in-Ok-clause-stands c = λ es h done.
-    step_stands c.args.self.now _ es c.args.event c.in-Ok.outcome (step_is c.args.self.now _ _ _ _ _ _ _ c.args.event c.in-Ok.outcome c.self.view_is c.if-self.false c.in-Ok.ensures) h c.requires.built c.requires.sound done
+    step_stands c.args.self.now _ es c.args.event c.in-Ok.outcome (step_is c.args.self.now _ _ _ _ _ _ _ c.args.event c.in-Ok.outcome c.self.view_is c.if-self.false c.in-Ok.ensures) h c.requires.built (sound_event c.args.event c.names_are_texts.ensures c.requires.sound) done
 
 pub returns-in-Ok-clause-unchanged : goal.returns-in-Ok-clause-unchanged
 returns-in-Ok-clause-unchanged c = λ no_event. step_unchanged c.args.self.now _ c.args.event c.in-Ok.outcome (step_is c.args.self.now _ _ _ _ _ _ _ c.args.event c.in-Ok.outcome c.self.view_is c.if-self.false c.in-Ok.ensures) no_event
@@ -23,4 +23,4 @@ pub returns-in-Ok-clause-scene : goal.returns-in-Ok-clause-scene
 returns-in-Ok-clause-scene c = step_scene c.args.self.now _ c.args.event c.in-Ok.outcome (step_is c.args.self.now _ _ _ _ _ _ _ c.args.event c.in-Ok.outcome c.self.view_is c.if-self.false c.in-Ok.ensures)
 
 pub take-requires : goal.take-requires
-take-requires c = record { built = c.requires.built; sound = sound_values c.args.event c.requires.sound; valid = c.self.invariant c.if-self.false }
+take-requires c = record { built = c.requires.built; sound = c.requires.sound; valid = c.self.invariant c.if-self.false }
