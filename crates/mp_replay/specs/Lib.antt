@@ -1,3 +1,4 @@
 pub mod Sessions
 pub mod Ends
 pub mod Program
+pub mod KnownLaws

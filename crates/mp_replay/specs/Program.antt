@@ -13,10 +13,9 @@ use Rattle.program_edge.specs.Statuses.{exit_number, told_text}
 use Rattle.program_edge.specs.declared.status.Status.{Status}
 use Rattle.program_edge.specs.declared.status.Status.TheVariants as status
 use Rattle.line_runs.specs.Ends.{MayEnd}
-use Rattle.line_runs.specs.Output.{EndsAs, read_in}
-use Rattle.packet_show.specs.Shown.{IsHex, longest_line, most_judged, show_told}
+use Rattle.packet_show.specs.Shown.{IsHex}
 use Rattle.mp_replay.specs.Ends.{AnyReason, is_known, is_replay, is_show}
-use Rattle.mp_replay.specs.Sessions.{no_scene, replay_told}
+use Rattle.mp_replay.specs.Sessions.{Replays, Shows}
 
 -- what is known of a stream: the bytes that it has left or holds, where it tells them, and how many of its calls failed
 pub record Stream : Type 0 where
@@ -41,9 +40,9 @@ pub record Does (words : List (String Global)) (input after output now : Stream)
   pub usage : s ≡ status.Usage ↔ is_known words ≡ false
   pub untouched : is_known words ≡ false → now ≡ output
   pub replay_ends : is_replay words ≡ true → MayEnd AnyReason input.faults after.faults output.faults now.faults s
-  pub replays : is_replay words ≡ true → (left held : List ℕ) → input.bytes ≡ Some left → output.bytes ≡ Some held → EndsAs (read_in replay_told no_scene longest_line most_judged left) held s now.bytes
+  pub replays : is_replay words ≡ true → Replays input.bytes output.bytes s now.bytes
   pub show_ends : is_show words ≡ true → MayEnd IsHex input.faults after.faults output.faults now.faults s
-  pub shows : is_show words ≡ true → (left held : List ℕ) → input.bytes ≡ Some left → output.bytes ≡ Some held → EndsAs (read_in show_told status.Done longest_line most_judged left) held s now.bytes
+  pub shows : is_show words ≡ true → Shows input.bytes output.bytes s now.bytes
 
 -- the end came before anything was read or written
 pub record Stays (output now : Stream) (s end : Status) : Type 0 where

@@ -1,5 +1,5 @@
 -- What the lines of a session make, and what each line writes. Lines are listed newest first.
-use Rattle.std.specs.Prelude.{◌≡◌, ℕ, ℤ, List, [], ◌∷◌, ◌++◌, Option, Some, None, Result, Ok, Err, if◌then◌else◌}
+use Rattle.std.specs.Prelude.{◌≡◌, ℕ, ℤ, true, false, List, [], ◌∷◌, ◌++◌, Option, Some, None, Result, Ok, Err, if◌then◌else◌}
 use Rattle.scene_model.specs.declared.scene.Scene.{Scene}
 use Rattle.scene_model.specs.declared.world.WorldEvent.{WorldEvent}
 use Rattle.scene_model.specs.declared.world.WorldNo.TheVariants as refusal
@@ -8,7 +8,7 @@ use Rattle.peer_core.specs.Forms.{packet_form}
 use Rattle.world_model.specs.World.{World, is_in}
 use Rattle.world_model.specs.Happens.{world}
 use Rattle.world_model.specs.Answers.{world_answer, happened}
-use Rattle.world_model.specs.Replicas.{reported}
+use Rattle.world_model.specs.Replicas.{is_joined, reported}
 use Rattle.session_text.specs.Outcomes.{outcome_lines}
 use Rattle.session_text.specs.Reports.{report_lines}
 use Rattle.program_edge.specs.declared.status.LineWhy.{LineWhy}
@@ -21,7 +21,12 @@ use Rattle.line_text.specs.declared.sessions.SessionLine.{SessionLine}
 use Rattle.line_text.specs.declared.sessions.SessionLine.TheVariants as line
 use Rattle.line_text.specs.Scenes.{scene_line_read}
 use Rattle.line_text.specs.Sessions.{session_line_read}
-use Rattle.line_runs.specs.Output.{Telling, next_number}
+use Rattle.line_runs.specs.Output.{Command, EndsAs, Read, RunsTo, Telling, never_last, next_number, read_in, stops}
+use Rattle.line_runs.specs.Steps.{Takes}
+use Rattle.line_runs.specs.declared.taker.Behind.{Behind}
+use Rattle.packet_show.specs.Shown.{longest_line, most_judged, show_command}
+use Rattle.scene_model.specs.Valid.{IsValidScene}
+use Rattle.world_steps.specs.Scripts.{Happened, IsSettled}
 use Rattle.world_steps.specs.Steps.{Parts, scene_of}
 use Rattle.world_steps.specs.Stands.{StandsForScript}
 
@@ -92,6 +97,39 @@ replay_told ls l = given (next_number ls) (session_of ls) l
 abbrev pub no_scene : Status
 no_scene = status.BadLine 1 why.Json
 
+-- what the end of the input gives: nothing more behind lines
+abbrev pub replay_closing : List (List ℕ) → Read
+replay_closing [] = stops no_scene
+replay_closing (l ∷ ls) = stops status.Done
+
+-- the command `replay`: no line ends the input
+abbrev pub replay_command : Command
+replay_command = record { told = replay_told; is_last = never_last; closing = replay_closing }
+
+-- What holds of a session: its scene is valid, its script happened, and of each two peers that are joined, what the second sees and reports of the first is what the delivered prefix of the first one's changes makes.
+pub record SessionHolds (s : Session) : Type 0 where
+  pub valid : IsValidScene s.scene
+  pub happened : Happened s.scene s.script
+  pub settled : (a b : ℤ) → is_joined (world_of s) a b ≡ true → IsSettled s.scene (world_of s) a b
+
+-- the same of the session that lines made
+abbrev pub LinesHold : Option Session → Type 0
+LinesHold None = Unit {0}
+LinesHold (Some s) = SessionHolds s
+
+-- What is known of lines that were replayed: it holds behind each of them, and so at each line that asks for a report.
+abbrev pub Known : List (List ℕ) → Type 0
+Known [] = Unit {0}
+Known (l ∷ ls) = LinesHold (session_of (l ∷ ls)) × Known ls
+
+-- What `replay` makes of what its input had left and its output held, at this end.
+abbrev pub Replays : Option (List ℕ) → Option (List ℕ) → Status → Option (List ℕ) → Type 0
+Replays left held s now = (input before : List ℕ) → left ≡ Some input → held ≡ Some before → RunsTo Known replay_command longest_line most_judged input before s now
+
+-- The same for `show`.
+abbrev pub Shows : Option (List ℕ) → Option (List ℕ) → Status → Option (List ℕ) → Type 0
+Shows left held s now = (input before : List ℕ) → left ≡ Some input → held ≡ Some before → EndsAs (read_in show_command longest_line most_judged input) before s now
+
 -- a world is the one that a session made
 pub record HoldsIn (s : Session) (v : Parts) : Type 0 where
   pub scene : scene_of v ≡ s.scene
@@ -113,3 +151,7 @@ abbrev pub Begins : Result Scene LineWhy → Result Parts LineStop → Type 0
 Begins read (Ok v) = (s : Scene) × (read ≡ Ok s) × HoldsIn (record { scene = s; script = [] }) v
 Begins read (Err (stop.LineBad w)) = read ≡ Err w
 Begins read (Err stop.OutOfMemory) = Unit {0}
+
+-- what taking line n comes to, which isn't the scene line
+abbrev pub TakesEvent : ℕ → Session → List ℕ → List ℕ → Result Behind LineStop → List ℕ → Parts → Type 0
+TakesEvent n s l old result new v = Takes (line_given n s (session_line_read l)) false old result new (HoldsIn (after_line s (session_line_read l)) v)

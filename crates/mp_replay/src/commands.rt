@@ -1,12 +1,10 @@
 //! What the words of the command line ask for.
-ghost use Rattle.std.specs.Prelude.{◌≡◌, ◌↔◌, List, ℕ, Some, true, false};
+ghost use Rattle.std.specs.Prelude.{◌≡◌, ◌↔◌, true, false};
 ghost use Rattle.program_edge.specs.declared.status.Status.TheVariants as status;
 ghost use Rattle.line_runs.specs.Ends.{MayEnd};
-ghost use Rattle.line_runs.specs.Output.{EndsAs, read_in};
-ghost use Rattle.packet_show.specs.Shown.{IsHex, longest_line, most_judged, show_told};
-ghost use Rattle.world_steps.specs.Scripts.{ReplicasSettle};
+ghost use Rattle.packet_show.specs.Shown.{IsHex};
 ghost use Rattle.mp_replay.specs.Ends.{AnyReason, is_known, is_replay as is_replay_of, is_show as is_show_of};
-ghost use Rattle.mp_replay.specs.Sessions.{no_scene, replay_told};
+ghost use Rattle.mp_replay.specs.Sessions.{Replays, Shows};
 
 use crate::session::Replayer;
 use crate::words::{is_replay, is_show};
@@ -14,7 +12,6 @@ use line_runs::run_lines;
 use packet_show::show;
 use program_edge::{Sink, Source, Status};
 use std::alloc::Global;
-use world_steps::replicas_settle;
 
 /// The most bytes of a line.
 const LONGEST_LINE: usize = 33_554_432;
@@ -23,10 +20,10 @@ const LONGEST_LINE: usize = 33_554_432;
 const MOST_JUDGED: u32 = 1_073_741_824;
 
 /// Replays a session: reads it from the source, line by line, and writes to the sink what each line
-/// does and what each report holds, before it reads on.
+/// does and what each report holds, before it waits for more.
 fn replay<S: Source, K: Sink>(alloc: Global, source: &mut S, sink: &mut K) -> Status
     ensures ends { MayEnd AnyReason (S.faults source.old) (S.faults source.new) (K.faults sink.old) (K.faults sink.new) result }
-    ensures output { (input held : List ℕ) → S.left source.old ≡ Some input → K.held sink.old ≡ Some held → EndsAs (read_in replay_told no_scene longest_line most_judged input) held result (K.held sink.new) }
+    ensures output { Replays (S.left source.old) (K.held sink.old) result (K.held sink.new) }
 {
     let mut replayer = Replayer::new();
     run_lines(
@@ -42,8 +39,10 @@ fn replay<S: Source, K: Sink>(alloc: Global, source: &mut S, sink: &mut K) -> St
 /// Does what the words ask for. They are those of the command line, without the program's name.
 ///
 /// The one word `replay` reads a session from the source, line by line, and writes to the sink what
-/// each line does and what each report holds, before it reads on. Line 1 is the scene; each line behind
-/// it is a connect, an operation of a peer, a delivery or a report. `docs/GUIDE.md` has each of them.
+/// each line does and what each report holds, before it waits for more. Line 1 is the scene; each line
+/// behind it is a connect, an operation of a peer, a delivery or a report. `docs/GUIDE.md` has each of
+/// them. The session of the lines that gave what was written has a valid scene and a script that happened,
+/// and each report in it shows of every joined peer what the delivered prefix of that peer's changes makes.
 ///
 /// The one word `show` reads packets in hexadecimal, one a line, and writes for each a line that says
 /// what the packet holds, or where and why the bytes are none.
@@ -68,14 +67,11 @@ pub fn run<S: Source, K: Sink>(
 ) -> Status
     ensures usage { result ≡ status.Usage ↔ is_known words.now ≡ false }
     ensures ends { is_replay_of words.now ≡ true → MayEnd AnyReason (S.faults source.old) (S.faults source.new) (K.faults sink.old) (K.faults sink.new) result }
-    ensures output { is_replay_of words.now ≡ true → (input held : List ℕ) → S.left source.old ≡ Some input → K.held sink.old ≡ Some held → EndsAs (read_in replay_told no_scene longest_line most_judged input) held result (K.held sink.new) }
+    ensures output { is_replay_of words.now ≡ true → Replays (S.left source.old) (K.held sink.old) result (K.held sink.new) }
     ensures show_ends { is_show_of words.now ≡ true → MayEnd IsHex (S.faults source.old) (S.faults source.new) (K.faults sink.old) (K.faults sink.new) result }
-    ensures show_output { is_show_of words.now ≡ true → (input held : List ℕ) → S.left source.old ≡ Some input → K.held sink.old ≡ Some held → EndsAs (read_in show_told status.Done longest_line most_judged input) held result (K.held sink.new) }
+    ensures show_output { is_show_of words.now ≡ true → Shows (S.left source.old) (K.held sink.old) result (K.held sink.new) }
     ensures untouched { is_known words.now ≡ false → (source.new ≡ source.old) × (sink.new ≡ sink.old) }
-    // what holds of the replicas that `output` prints, in every session
-    ensures settles { ReplicasSettle }
 {
-    replicas_settle();
     if is_show(words) {
         return show(alloc, source, sink);
     }

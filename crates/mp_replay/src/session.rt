@@ -1,12 +1,12 @@
 //! A session that is replayed line by line.
-ghost use Rattle.std.specs.Prelude.{◌≡◌, ◌++◌, [], None, Ok, IfOk, OnOk, true};
+ghost use Rattle.std.specs.Prelude.{◌≡◌, ◌++◌, [], None, Ok, OnErr, OnOk, true};
 ghost use Rattle.line_text.specs.Scenes.{scene_line_read};
-ghost use Rattle.line_text.specs.Sessions.{session_line_read};
-ghost use Rattle.line_runs.specs.Steps.{Takes};
+ghost use Rattle.line_runs.specs.Steps.{BeginsWith};
 ghost use Rattle.world_steps.specs.Sound.{has_sound_values, is_built_event};
 ghost use Rattle.line_text.specs.Held.{IsGivenLine};
 ghost use Rattle.mp_replay.specs.Ends.{AnyReason};
-ghost use Rattle.mp_replay.specs.Sessions.{Begins, HoldsIn, Session as SessionOf, Took, after_line, line_given, line_text as line_text_of, no_scene, replay_told, report_text as report_text_of, with_event, world_of};
+ghost use Rattle.mp_replay.specs.KnownLaws.{known_of};
+ghost use Rattle.mp_replay.specs.Sessions.{Begins, HoldsIn, Known, Session as SessionOf, TakesEvent, Took, after_line, line_text as line_text_of, replay_command, report_text as report_text_of, with_event, world_of};
 ghost use Rattle.scene_model.specs.declared.world.WorldOutcome.TheVariants as answers;
 ghost use Rattle.session_text.specs.Outcomes.{outcome_lines};
 ghost use Rattle.session_text.specs.Reports.{report_lines};
@@ -14,7 +14,7 @@ ghost use Rattle.world_model.specs.Answers.{world_answer};
 ghost use Rattle.peer_core.specs.Forms.{packet_form};
 
 use gd_variant::{Bytes, OutOfMemory};
-use line_runs::LineTaker;
+use line_runs::{Behind, LineTaker};
 use line_text::{SessionLine, read_event, read_scene};
 use mp_world::{ReportNo, World, WorldStop};
 use program_edge::{LineStop, LineWhy, Status};
@@ -34,68 +34,125 @@ fn begin(alloc: Global, line: &[u8]) -> Result<World, LineStop>
     }
 }
 
-/// The line that says that a report is done, and the lines of the report.
-fn done_and(alloc: Global, n: u64, peer: i32, report: &Report) -> Result<Bytes, OutOfMemory>
-    ensures { IfOk result (λ b. b ≡ outcome_lines n (answers.Done None []) ++ report_lines peer report.now) }
+/// Adds bytes to a text.
+fn add(text: &mut Vec<u8>, bytes: &Bytes) -> Result<(), OutOfMemory>
+    ensures added { OnOk result (text.new.items ≡ text.old.items ++ bytes.now) }
+    ensures err { OnErr result (text.new.items ≡ text.old.items) }
+{
+    text.extend_from_slice(bytes.as_slice())?;
+    Ok(())
+}
+
+/// Adds the line that says that a report is done, and the lines of the report.
+fn add_report(
+    alloc: Global,
+    n: u64,
+    peer: i32,
+    report: &Report,
+    text: &mut Vec<u8>,
+) -> Result<(), OutOfMemory>
+    ensures added { OnOk result (text.new.items ≡ text.old.items ++ (outcome_lines n (answers.Done None []) ++ report_lines peer report.now)) }
+    ensures begins { BeginsWith text.old.items text.new.items }
 {
     let done = WorldOutcome::Done {
         made: None,
         steps: Items::new(alloc),
     };
-    let mut text = outcome_text(alloc, n, &done)?.into_vec();
+    let first = outcome_text(alloc, n, &done)?;
     let lines = report_text(alloc, peer, report)?;
-    text.extend_from_slice(lines.as_slice())?;
-    Ok(Bytes::from_vec(text))
+    add(text, &first)?;
+    add(text, &lines)
 }
 
-/// What line `n` writes, which asks for the report of a peer.
-fn report_of(alloc: Global, world: &World, n: u64, peer: i32) -> Result<Bytes, OutOfMemory>
-    ensures { (s : SessionOf) → HoldsIn s world.now → IfOk result (λ b. b ≡ report_text_of n s peer) }
+/// Adds the answer to line `n`.
+fn add_answer(
+    alloc: Global,
+    n: u64,
+    outcome: &WorldOutcome,
+    text: &mut Vec<u8>,
+) -> Result<(), OutOfMemory>
+    ensures added { OnOk result (text.new.items ≡ text.old.items ++ outcome_lines n outcome.now) }
+    ensures begins { BeginsWith text.old.items text.new.items }
+{
+    let lines = outcome_text(alloc, n, outcome)?;
+    add(text, &lines)
+}
+
+/// Adds what line `n` writes, which asks for the report of a peer.
+fn report_of(
+    alloc: Global,
+    world: &World,
+    n: u64,
+    peer: i32,
+    text: &mut Vec<u8>,
+) -> Result<(), OutOfMemory>
+    ensures added { (s : SessionOf) → HoldsIn s world.now → OnOk result (text.new.items ≡ text.old.items ++ report_text_of n s peer) }
+    ensures begins { BeginsWith text.old.items text.new.items }
 {
     match world.report(alloc, peer) {
-        Ok(report) => done_and(alloc, n, peer, &report),
-        Err(ReportNo::NoPeer) => outcome_text(alloc, n, &WorldOutcome::Refused(WorldNo::NoPeer)),
+        Ok(report) => add_report(alloc, n, peer, &report, text),
+        Err(ReportNo::NoPeer) => {
+            add_answer(alloc, n, &WorldOutcome::Refused(WorldNo::NoPeer), text)
+        }
         Err(ReportNo::Spent) => Err(OutOfMemory),
         Err(ReportNo::OutOfMemory) => Err(OutOfMemory),
     }
 }
 
-/// Lets an event happen.
-fn happen(alloc: Global, world: &mut World, event: WorldEvent) -> Result<WorldOutcome, OutOfMemory>
+/// Lets an event happen, and adds what line `n` writes.
+fn happen(
+    alloc: Global,
+    world: &mut World,
+    n: u64,
+    event: WorldEvent,
+    text: &mut Vec<u8>,
+) -> Result<(), OutOfMemory>
     requires built { is_built_event event ≡ true }
     requires sound { has_sound_values event ≡ true }
-    ensures answers { (s : SessionOf) → HoldsIn s world.old → IfOk result (λ o. o ≡ world_answer packet_form s.scene (world_of s) event) }
+    ensures added { (s : SessionOf) → HoldsIn s world.old → OnOk result (text.new.items ≡ text.old.items ++ outcome_lines n (world_answer packet_form s.scene (world_of s) event)) }
     ensures holds { (s : SessionOf) → HoldsIn s world.old → OnOk result (HoldsIn (with_event s event) world.new) }
+    ensures begins { BeginsWith text.old.items text.new.items }
 {
     match world.step(alloc, event) {
-        Ok(outcome) => Ok(outcome),
+        Ok(outcome) => add_answer(alloc, n, &outcome, text),
         Err(WorldStop::OutOfMemory) => Err(OutOfMemory),
         Err(WorldStop::Spent) => Err(OutOfMemory),
     }
 }
 
-/// Lets happen what line `n` says, and answers what it writes.
-fn act(alloc: Global, world: &mut World, n: u64, line: SessionLine) -> Result<Bytes, OutOfMemory>
+/// Lets happen what line `n` says, and adds what it writes.
+fn act(
+    alloc: Global,
+    world: &mut World,
+    n: u64,
+    line: SessionLine,
+    text: &mut Vec<u8>,
+) -> Result<(), OutOfMemory>
     requires { IsGivenLine line }
-    ensures text { (s : SessionOf) → HoldsIn s world.old → IfOk result (λ b. b ≡ line_text_of n s line) }
+    ensures added { (s : SessionOf) → HoldsIn s world.old → OnOk result (text.new.items ≡ text.old.items ++ line_text_of n s line) }
     ensures holds { (s : SessionOf) → HoldsIn s world.old → OnOk result (HoldsIn (after_line s (Ok line)) world.new) }
+    ensures begins { BeginsWith text.old.items text.new.items }
 {
     match line {
-        SessionLine::Event(event) => {
-            let outcome = happen(alloc, world, event)?;
-            outcome_text(alloc, n, &outcome)
-        }
-        SessionLine::Report(peer) => report_of(alloc, world, n, peer),
+        SessionLine::Event(event) => happen(alloc, world, n, event, text),
+        SessionLine::Report(peer) => report_of(alloc, world, n, peer, text),
     }
 }
 
 /// Takes line `n`, which isn't the scene line.
-fn take_event(alloc: Global, world: &mut World, n: u64, line: &[u8]) -> Result<Bytes, LineStop>
-    ensures { (s : SessionOf) → HoldsIn s world.old → Takes (line_given n s (session_line_read line.now)) result (HoldsIn (after_line s (session_line_read line.now)) world.new) }
+fn take_event(
+    alloc: Global,
+    world: &mut World,
+    n: u64,
+    line: &[u8],
+    text: &mut Vec<u8>,
+) -> Result<Behind, LineStop>
+    ensures takes { (s : SessionOf) → HoldsIn s world.old → TakesEvent n s line.now text.old.items result text.new.items world.new }
+    ensures begins { BeginsWith text.old.items text.new.items }
 {
     let line = read_event(alloc, line)?;
-    match act(alloc, world, n, line) {
-        Ok(text) => Ok(text),
+    match act(alloc, world, n, line, text) {
+        Ok(()) => Ok(Behind::Lines),
         Err(OutOfMemory) => Err(LineStop::OutOfMemory),
     }
 }
@@ -116,29 +173,45 @@ impl Replayer {
 }
 
 impl LineTaker for Replayer {
-    ghost told = { replay_told };
-
-    ghost nothing = { no_scene };
+    ghost command = { replay_command };
 
     ghost reasons = { AnyReason };
 
     ghost took = { λ r ls. Took r.world ls };
 
-    fn take(&mut self, alloc: Global, n: u64, line: &[u8]) -> Result<Bytes, LineStop> {
+    ghost known = { Known };
+
+    fn take(
+        &mut self,
+        alloc: Global,
+        n: u64,
+        line: &[u8],
+        text: &mut Vec<u8>,
+    ) -> Result<Behind, LineStop> {
         match &mut self.world {
-            Some(world) => take_event(alloc, world, n, line),
+            Some(world) => take_event(alloc, world, n, line, text),
             None => {
                 let world = begin(alloc, line)?;
                 self.world = Some(world);
-                Ok(Bytes::from_vec(Vec::new(alloc)))
+                Ok(Behind::Lines)
             }
         }
     }
 
-    fn without_lines(&self) -> Status {
-        Status::BadLine {
-            n: 1,
-            why: LineWhy::Json,
+    fn close(
+        &mut self,
+        _alloc: Global,
+        n: u64,
+        _text: &mut Vec<u8>,
+    ) -> Result<Status, OutOfMemory> {
+        if n == 1 {
+            return Ok(Status::BadLine {
+                n: 1,
+                why: LineWhy::Json,
+            });
         }
+        Ok(Status::Done)
     }
+
+    ghost knows = { λ r ls took. known_of r.world ls took };
 }
