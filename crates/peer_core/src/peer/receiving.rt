@@ -1,7 +1,7 @@
 //! Received packets: what each does here, or why it is a fault.
 ghost use Rattle.std.specs.Prelude.{◌≡◌, true, false, IfOk};
 ghost use Rattle.std.specs.Ordering.{int_eq};
-ghost use Rattle.packet_codec.specs.Packets.{read_packet};
+ghost use Rattle.packet_form.specs.Packets.{read_packet};
 ghost use Rattle.peer_steps.specs.Judged.{link_judged};
 ghost use Rattle.peer_steps.specs.Kept.{kept_tree};
 ghost use Rattle.peer_steps.specs.Sound.{is_sound_message, is_sound_spawn};
