@@ -3,7 +3,8 @@ ghost use Rattle.std.specs.Prelude.{◌≡◌, [], IfOk};
 ghost use Rattle.byte_fields.specs.Fields.{Gives, number_at};
 ghost use Rattle.packet_form.specs.Head.{width_of, method_width};
 ghost use Rattle.packet_form.specs.Wholes.{region_by};
-ghost use Rattle.packet_form.specs.Reading.{count_at, counted_args_at, args_at, raw_args, is_offset, method_end, offset_fits, id_call_at, path_call_at, target_call_at, call_at, value_at};
+ghost use Rattle.packet_form.specs.Reading.{count_at, counted_args_at, args_at, id_call_at, path_call_at, target_call_at, call_at, value_at};
+ghost use Rattle.packet_form.specs.Tests.{raw_args, is_offset, method_end, offset_fits};
 ghost use Rattle.variant_codec.specs.Readers.{list_by};
 
 use crate::fields::{behind, path_from, value_from};

@@ -5,7 +5,8 @@ ghost use Rattle.std.specs.Str.{is_utf8};
 ghost use Rattle.byte_fields.specs.Fields.{Gives, fault};
 ghost use Rattle.byte_fields.specs.declared.fault.ReadError.TheVariants as errors;
 ghost use Rattle.gd_variant.specs.Sound.{has_no_zero};
-ghost use Rattle.packet_form.specs.Reading.{is_some, value_at, values_at, ids_at, path_at, name_length_at, name_at};
+ghost use Rattle.packet_form.specs.Reading.{value_at, values_at, ids_at, path_at, name_length_at, name_at};
+ghost use Rattle.packet_form.specs.Tests.{is_some};
 
 use crate::parts::{Readable, parts_from};
 use byte_fields::{Fault, ReadError, u32_at};

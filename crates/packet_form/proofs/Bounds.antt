@@ -23,7 +23,7 @@ use Rattle.packet_form.specs.declared.head.Head.{Head}
 use Rattle.packet_form.specs.declared.head.Head.TheVariants as head
 use Rattle.packet_form.specs.Head.{is_plain, method_width}
 use Rattle.packet_form.specs.Wholes.{IsRest, Fitting, Region, Chosen}
-use Rattle.packet_form.specs.Reading.{raw_args, is_offset, method_end, offset_fits, entry_of, delta_entry_of}
+use Rattle.packet_form.specs.Tests.{raw_args, is_offset, method_end, offset_fits, entry_of, delta_entry_of}
 use Rattle.packet_form.specs.Grammar.{MethodId, IsValue, IsValues, IsPath, IsNameOf, IsCountedArgs, IsArgs, IsIdCall, IsPathCall, IsCall, IsSimplify, IsConfirm, IsArg, IsArgFor, IsSpawn, IsDespawn, IsSizedValues, IsEntry, IsDeltaEntry, IsSync, IsDelta, IsPlainOf, IsInner, IsPayload, IsSystem, IsMessage}
 use Rattle.packet_form.specs.Held.{bytes_of_texts, held_by, held_by_all, held_by_value, held_by_values, held_by_arg, held_by_plain, held_by_message}
 use Rattle.packet_form.specs.Packets.{Frames}

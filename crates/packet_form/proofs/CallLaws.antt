@@ -5,7 +5,8 @@ use Rattle.gd_variant.specs.declared.message.Plain.TheVariants as plain
 use Rattle.gd_variant.specs.declared.message.Why.TheVariants.{PathEnd, Trailing}
 use Rattle.variant_codec.proofs.Laws.{IsReader, then_reader, list_reader}
 use Rattle.packet_form.specs.declared.head.CallHead.{CallHead}
-use Rattle.packet_form.specs.Reading.{raw_args, counted_args_at, args_at, is_offset, method_end, offset_fits, id_call_at, path_call_at, target_call_at, call_at}
+use Rattle.packet_form.specs.Reading.{counted_args_at, args_at, id_call_at, path_call_at, target_call_at, call_at}
+use Rattle.packet_form.specs.Tests.{raw_args, is_offset, method_end, offset_fits}
 use Rattle.packet_form.specs.Grammar.{IsCountedArgs, IsArgs, IsIdCall, IsPathCall, IsTargetCall, IsCall}
 use Rattle.packet_form.specs.Breaks.{CountedArgsBreak, ArgsBreak, IdCallBreaks, PathCallBreaks, TargetCallBreaks, CallBreaks}
 use Rattle.packet_form.proofs.Wholes.{IsWhole, rest_whole, seen_whole, ending_whole, before_whole, fitting_whole, region_reader, chosen_whole}

@@ -17,7 +17,8 @@ use Rattle.packet_form.specs.declared.head.CallHead.{CallHead}
 use Rattle.packet_form.specs.declared.head.NodeWidth.{NodeWidth}
 use Rattle.packet_form.specs.declared.head.NodeWidth.TheVariants.{One, Two, Four}
 use Rattle.packet_form.specs.Head.{is_command, has_width, head_of, width_of, method_width}
-use Rattle.packet_form.specs.Reading.{is_some, first_at, head_at, ids_at, name_length_at, ends_name, name_at, count_at, is_digit, digit_of, digit_at, digits_at, digest_at, is_zero, zero_at, is_flag, flag_at, is_subcommand, subcommand_at}
+use Rattle.packet_form.specs.Reading.{first_at, head_at, ids_at, name_length_at, name_at, count_at, digit_at, digits_at, digest_at, zero_at, flag_at, subcommand_at}
+use Rattle.packet_form.specs.Tests.{is_some, ends_name, is_digit, digit_of, is_zero, is_flag, is_subcommand}
 use Rattle.packet_form.specs.Grammar.{Byte, HalfWord, LongWord, Id, MethodId, IsHead, IsIds, IsNameOf, IsDigit, IsDigest, IsFlag}
 use Rattle.packet_form.specs.Breaks.{IsEmpty, HeadBreaks, IdsBreak, NameBreaks, CountBreaks, MethodIdBreaks, DigitBreaks, DigestBreaks, FlagBreaks}
 

@@ -6,7 +6,8 @@ use Rattle.gd_variant.specs.declared.message.Plain.TheVariants as plain
 use Rattle.gd_variant.specs.declared.message.Why.TheVariants.{Short, Size, Trailing}
 use Rattle.variant_codec.proofs.Laws.{IsReader, mapped_reader, then_reader, done_reader}
 use Rattle.variant_codec.proofs.Fields.{word32}
-use Rattle.packet_form.specs.Reading.{arg_at, arg_for, spawn_at, despawn_at, entry_of, delta_entry_of, entry_at, delta_entry_at, sync_at, delta_at, simplify_at, confirm_at}
+use Rattle.packet_form.specs.Reading.{arg_at, arg_for, spawn_at, despawn_at, entry_at, delta_entry_at, sync_at, delta_at, simplify_at, confirm_at}
+use Rattle.packet_form.specs.Tests.{entry_of, delta_entry_of}
 use Rattle.packet_form.specs.Grammar.{IsArg, IsArgFor, IsSpawn, IsDespawn, IsEntry, IsDeltaEntry, IsSync, IsDelta, IsSimplify, IsConfirm}
 use Rattle.packet_form.specs.Breaks.{ArgBreaks, ArgForBreaks, SpawnBreaks, DespawnBreaks, EntryBreaks, DeltaEntryBreaks, SyncBreaks, DeltaBreaks, SimplifyBreaks, ConfirmBreaks}
 use Rattle.packet_form.proofs.Wholes.{IsWhole, IsNeverEmpty, never_empty, seen_whole, ending_whole, ending_seen, before_right, before_whole, filled_whole, region_reader, chosen_reader}

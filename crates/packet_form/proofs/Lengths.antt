@@ -15,7 +15,7 @@ use Rattle.variant_codec.specs.Written.{written_short}
 use Rattle.packet_form.specs.declared.head.NodeWidth.{NodeWidth}
 use Rattle.packet_form.specs.declared.head.NodeWidth.TheVariants.{One, Two, Four}
 use Rattle.packet_form.specs.Head.{width_of, method_width, method_size, call_byte}
-use Rattle.packet_form.specs.Reading.{method_end}
+use Rattle.packet_form.specs.Tests.{method_end}
 use Rattle.packet_form.specs.Written.{written_value, written_values, ids_bytes, sized_bytes, args_bytes, target_width, head_for, node_number, target_bytes, is_wide_method, is_raw, raw_bytes, call_bytes, digit, digits_of, simplify_bytes, arg_bytes, spawn_bytes, entry_bytes, delta_entry_bytes, system_bytes}
 
 -- ---- numbers

@@ -12,7 +12,8 @@ use Rattle.gd_variant.specs.Sound.{has_no_zero}
 use Rattle.gd_variant.specs.declared.message.Why.{Why}
 use Rattle.gd_variant.specs.declared.message.Why.TheVariants.{Utf8, PathEnd, Trailing}
 use Rattle.variant_codec.proofs.Laws.{Broke, no_ok, no_err, err_is, here}
-use Rattle.packet_form.specs.Reading.{is_some, path_at}
+use Rattle.packet_form.specs.Reading.{path_at}
+use Rattle.packet_form.specs.Tests.{is_some}
 use Rattle.packet_form.specs.Grammar.{IsPath}
 use Rattle.packet_form.specs.Breaks.{PathBreaks}
 use Rattle.packet_form.proofs.Wholes.{IsWhole}

@@ -19,7 +19,7 @@ use Rattle.variant_codec.specs.Written.{written_short}
 use Rattle.packet_form.specs.declared.head.Head.{Head}
 use Rattle.packet_form.specs.declared.head.Head.TheVariants as head
 use Rattle.packet_form.specs.Head.{is_command, has_width, head_of, is_plain, bit}
-use Rattle.packet_form.specs.Reading.{is_some, is_subcommand}
+use Rattle.packet_form.specs.Tests.{is_some, is_subcommand}
 use Rattle.packet_form.specs.Grammar.{IsHead, IsValue, IsSizedValues, IsArg, IsArgFor, IsEntry, IsDeltaEntry, IsPlainOf, IsInner, IsPayload, IsMessageOf, IsMessage}
 use Rattle.packet_form.specs.Written.{written_value, written_values, ids_bytes, sized_bytes, head_for, call_bytes, digits_of, simplify_bytes, arg_bytes, spawn_bytes, entry_bytes, delta_entry_bytes, written_plain, system_bytes, written_packet, AreSound, IsArgSound, FitsEntry, FitsDeltaEntry, FitsPlain}
 use Rattle.packet_form.proofs.Top.{read_only}

@@ -18,7 +18,7 @@ use Rattle.packet_form.specs.declared.head.CallHead.{CallHead}
 use Rattle.packet_form.specs.declared.head.Head.TheVariants as head
 use Rattle.packet_form.specs.Head.{is_command, has_width, head_of, width_of, method_width, method_size, call_byte}
 use Rattle.packet_form.specs.Wholes.{Chosen}
-use Rattle.packet_form.specs.Reading.{is_some, raw_args, is_offset, method_end, offset_fits}
+use Rattle.packet_form.specs.Tests.{is_some, raw_args, is_offset, method_end, offset_fits}
 use Rattle.packet_form.specs.Grammar.{MethodId, IsHead, IsArgs, IsIdCall, IsPathCall, IsTargetCall, IsCall}
 use Rattle.packet_form.specs.Written.{written_values, AreSound, fewest_node, is_wide_method, is_raw, raw_bytes, args_bytes, target_width, head_for, node_number, target_bytes, call_bytes, FitsTarget}
 use Rattle.packet_form.proofs.WrittenParts.{counted_values}

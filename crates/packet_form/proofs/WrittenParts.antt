@@ -15,7 +15,7 @@ use Rattle.variant_codec.specs.Parts.{SpellsEach}
 use Rattle.variant_codec.specs.Readers.{Relation, Each, EachOf}
 use Rattle.variant_codec.specs.Breaks.{Word}
 use Rattle.variant_codec.proofs.Forms.{small_written_spells}
-use Rattle.packet_form.specs.Reading.{is_digit, digit_of}
+use Rattle.packet_form.specs.Tests.{is_digit, digit_of}
 use Rattle.packet_form.specs.Head.{bit}
 use Rattle.packet_form.specs.Grammar.{IsValue, IsValues, IsIds, IsPath, IsNameOf, IsDigit, IsDigits, IsDigest, IsFlag}
 use Rattle.packet_form.specs.Written.{written_value, written_values, ids_bytes, digit, digits_of, IsSound, AreSound, AreIds, AreBytes, IsName}

@@ -15,7 +15,7 @@ use Rattle.packet_form.specs.declared.head.Head.{Head}
 use Rattle.packet_form.specs.declared.head.Head.TheVariants as head
 use Rattle.packet_form.specs.Head.{is_command, has_width, is_plain, width_of, method_width}
 use Rattle.packet_form.specs.Wholes.{EndBreaks, FittingBreaks, FillBreaks, Region, RegionBreaks, ChosenBreaks}
-use Rattle.packet_form.specs.Reading.{is_some, ends_name, is_offset, method_end, offset_fits, is_digit, is_zero, is_flag, is_subcommand}
+use Rattle.packet_form.specs.Tests.{is_some, ends_name, is_offset, method_end, offset_fits, is_digit, is_zero, is_flag, is_subcommand}
 use Rattle.packet_form.specs.Grammar.{Byte, Id, MethodId, IsHead, IsValue, IsIds, IsNameOf, IsCountedArgs, IsArgs, IsDigit, IsDigits, IsDigest, IsFlag, IsArgFor, IsEntry, IsDeltaEntry, HalfWord, LongWord}
 
 -- ---- fields

@@ -20,7 +20,7 @@ use Rattle.packet_form.specs.declared.head.Head.{Head}
 use Rattle.packet_form.specs.declared.head.Head.TheVariants as head
 use Rattle.packet_form.specs.Head.{is_command, has_width, head_of, is_plain, width_of, method_width}
 use Rattle.packet_form.specs.Wholes.{IsRest, Fitting, Region, Chosen}
-use Rattle.packet_form.specs.Reading.{is_some, raw_args, is_offset, method_end, offset_fits, is_digit, digit_of, is_zero, is_flag, entry_of, delta_entry_of, is_subcommand}
+use Rattle.packet_form.specs.Tests.{is_some, raw_args, is_offset, method_end, offset_fits, is_digit, digit_of, is_zero, is_flag, entry_of, delta_entry_of, is_subcommand}
 
 -- ---- fields
 

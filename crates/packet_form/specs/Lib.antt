@@ -1,5 +1,6 @@
 pub mod Wholes
 pub mod Head
+pub mod Tests
 pub mod Reading
 pub mod Grammar
 pub mod Breaks

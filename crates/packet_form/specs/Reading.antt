@@ -1,12 +1,10 @@
 -- Reading a packet from left to right, with the first fault that is met.
-use Rattle.std.specs.Prelude.{ℕ, ◌+◌, ◌-◌, ◌*◌, ℤ, Bool, false, not, ◌&&◌, ◌||◌, List, [], ◌∷◌, length, take, slice_index, Ok, Err, Some, None, Option, nat_eq, nat_lt, nat_le, if◌then◌else◌}
+use Rattle.std.specs.Prelude.{ℕ, ◌+◌, ◌-◌, ◌*◌, ℤ, Bool, List, [], length, take, Ok, Err, Some, None, Option, nat_eq, nat_lt, if◌then◌else◌}
 use Rattle.std.specs.Int.{w8, w16, w32, w64}
 use Rattle.std.specs.List.{prefix_len}
 use Rattle.std.specs.Str.{is_utf8}
 use Rattle.gd_variant.specs.Back.{value_of}
-use Rattle.gd_variant.specs.Sound.{has_no_zero}
 use Rattle.gd_variant.specs.declared.value.Variant.{Variant}
-use Rattle.gd_variant.specs.declared.value.Variant.TheVariants.{PackedBytes}
 use Rattle.gd_variant.specs.declared.message.Entry.{Entry}
 use Rattle.gd_variant.specs.declared.message.DeltaEntry.{DeltaEntry}
 use Rattle.gd_variant.specs.declared.message.Target.TheVariants as target
@@ -19,18 +17,13 @@ use Rattle.byte_fields.specs.Fields.{fault, number_at}
 use Rattle.variant_codec.specs.Readers.{Reader, raw_at, done_at, mapped_by, checked_by, then_by, list_by}
 use Rattle.variant_codec.specs.Reading.{small_at, short_at}
 use Rattle.packet_form.specs.declared.head.CallHead.{CallHead}
-use Rattle.packet_form.specs.declared.head.NodeWidth.{NodeWidth}
-use Rattle.packet_form.specs.declared.head.NodeWidth.TheVariants.{One, Two, Four}
 use Rattle.packet_form.specs.declared.head.Head.{Head}
 use Rattle.packet_form.specs.declared.head.Head.TheVariants as head
-use Rattle.packet_form.specs.Head.{is_command, has_width, head_of, is_plain, width_of, method_width, method_size}
+use Rattle.packet_form.specs.Head.{is_command, has_width, head_of, is_plain, width_of, method_width}
 use Rattle.packet_form.specs.Wholes.{Whole, rest_at, seen_by, ending_by, before_by, fitting_by, filled_by, region_by}
+use Rattle.packet_form.specs.Tests.{is_some, is_digit, digit_of, is_zero, is_flag, is_subcommand, raw_args, ends_name, is_offset, method_end, offset_fits, entry_of, delta_entry_of}
 
 -- ---- fields
-
--- a number but 0
-abbrev pub is_some : ℕ → Bool
-is_some n = not (nat_eq n 0)
 
 -- the first byte
 unfoldable pub first_at : Reader ℕ
@@ -62,20 +55,11 @@ path_at bytes =
 unfoldable pub name_length_at : Reader ℕ
 name_length_at = checked_by is_some PathEnd (number_at w32)
 
--- the last of so many bytes is zero, and none before it
-abbrev pub ends_name : ℕ → List ℕ → Bool
-ends_name len s = nat_eq (slice_index s (len - 1)) 0 && has_no_zero (take (len - 1) s)
-
 -- a name and its zero byte, one field of so many bytes
 unfoldable pub name_at : ℕ → Reader (List ℕ)
 name_at len = mapped_by (take (len - 1)) (checked_by (λ s. is_utf8 (take (len - 1) s)) Utf8 (checked_by (ends_name len) PathEnd (raw_at len)))
 
 -- ---- calls
-
--- one PackedBytes of all bytes, or nothing where there are none
-abbrev pub raw_args : List ℕ → List Variant
-raw_args [] = []
-raw_args (b ∷ bytes) = PackedBytes (b ∷ bytes) ∷ []
 
 unfoldable pub count_at : Reader ℕ
 count_at = checked_by is_some Count (number_at w8)
@@ -85,20 +69,6 @@ counted_args_at = then_by count_at (λ n. list_by (λ _. value_at) [] n)
 
 unfoldable pub args_at : Bool → Whole (List Variant)
 args_at raw = if raw then seen_by raw_args rest_at else ending_by Trailing counted_args_at
-
--- a node id of four bytes with bit 31 set tells where the path stands in this packet
-abbrev pub is_offset : NodeWidth → ℕ → Bool
-is_offset One id = false
-is_offset Two id = false
-is_offset Four id = nat_le 2147483648 id
-
--- where the method id ends: behind the first byte and the node id of four bytes
-abbrev pub method_end : CallHead → ℕ
-method_end h = 5 + method_size h.wide_method
-
--- an offset is behind the method id and within the packet, of which so many bytes follow the node id
-abbrev pub offset_fits : CallHead → ℕ → ℕ → Bool
-offset_fits h id left = not (is_offset h.node id) || (nat_le (method_end h) (id - 2147483648) && nat_lt (id - 2147483648) (5 + left))
 
 -- a call of a node by its number
 unfoldable pub id_call_at : CallHead → ℕ → Whole Plain
@@ -119,13 +89,6 @@ call_at h = fitting_by (offset_fits h) PathEnd (number_at (width_of h.node)) (ta
 
 -- ---- names and raw bytes
 
--- lower-case hexadecimal
-abbrev pub is_digit : ℕ → Bool
-is_digit n = (nat_le 48 n && nat_le n 57) || (nat_le 97 n && nat_le n 102)
-
-abbrev pub digit_of : ℕ → ℕ
-digit_of n = if nat_le n 57 then n - 48 else n - 87
-
 unfoldable pub digit_at : Reader ℕ
 digit_at = mapped_by digit_of (checked_by is_digit Digits (number_at w8))
 
@@ -135,9 +98,6 @@ digits_at = then_by digit_at (λ high. mapped_by (λ low. 16 * high + low) digit
 
 unfoldable pub digest_at : Reader (List ℕ)
 digest_at = list_by (λ _. digits_at) [] 16
-
-abbrev pub is_zero : ℕ → Bool
-is_zero n = nat_eq n 0
 
 -- the zero byte behind the digits
 unfoldable pub zero_at : Reader ℕ
@@ -149,9 +109,6 @@ simplify_at =
     before_by zero_at (λ _.
     before_by (number_at w32) (λ id.
     seen_by (λ path. plain.Simplify digest id path) path_at)))
-
-abbrev pub is_flag : ℕ → Bool
-is_flag n = nat_le n 1
 
 -- a byte 0 or 1
 unfoldable pub flag_at : Reader Bool
@@ -191,12 +148,6 @@ despawn_at = ending_by Trailing (mapped_by (λ net. plain.Despawn net) (number_a
 unfoldable pub sized_values_at : Reader (List Variant)
 sized_values_at = then_by (number_at w32) (λ size. region_by size values_at)
 
-abbrev pub entry_of : ℕ → List Variant → Entry
-entry_of id values = record { id = id; values = values }
-
-abbrev pub delta_entry_of : ℕ → ℕ → List Variant → DeltaEntry
-delta_entry_of id mask values = record { id = id; mask = mask; values = values }
-
 unfoldable pub entry_at : Reader Entry
 entry_at = then_by (number_at w32) (λ id. mapped_by (entry_of id) sized_values_at)
 
@@ -226,9 +177,6 @@ plain_of head.System bytes = Err (fault (length bytes) Nested)
 -- a packet inside a relay
 unfoldable pub inner_at : Whole Plain
 inner_at = before_by (checked_by is_plain Nested head_at) plain_of
-
-abbrev pub is_subcommand : ℕ → Bool
-is_subcommand n = nat_le n 3
 
 unfoldable pub subcommand_at : Reader ℕ
 subcommand_at = checked_by is_subcommand Command (number_at w8)

@@ -22,7 +22,7 @@ use Rattle.packet_form.specs.declared.head.NodeWidth.{NodeWidth}
 use Rattle.packet_form.specs.declared.head.NodeWidth.TheVariants.{One, Two, Four}
 use Rattle.packet_form.specs.declared.head.CallHead.{CallHead}
 use Rattle.packet_form.specs.Head.{width_of, method_width, bit, call_byte}
-use Rattle.packet_form.specs.Reading.{method_end}
+use Rattle.packet_form.specs.Tests.{method_end}
 
 -- ---- values and ids
 

@@ -11,7 +11,7 @@ use Rattle.gd_variant.specs.declared.message.Target.{Target}
 use Rattle.variant_codec.specs.Written.{written_short}
 use Rattle.packet_form.specs.declared.head.CallHead.{CallHead}
 use Rattle.packet_form.specs.Head.{width_of, method_width, call_byte}
-use Rattle.packet_form.specs.Reading.{method_end}
+use Rattle.packet_form.specs.Tests.{method_end}
 use Rattle.packet_form.specs.Written.{args_bytes, target_width, head_for, node_number, target_bytes, is_wide_method, call_bytes, ids_bytes, spawn_bytes, system_bytes}
 
 -- a step that was done, and what is put after it

@@ -3,7 +3,7 @@ ghost use Rattle.std.specs.Prelude.{◌≡◌, ◌++◌, ◌+◌, ◌≤◌, ◌
 ghost use Rattle.byte_fields.specs.Fields.{word};
 ghost use Rattle.packet_form.specs.Head.{method_width, width_of};
 ghost use Rattle.packet_form.specs.Packets.{most_bytes};
-ghost use Rattle.packet_form.specs.Reading.{method_end};
+ghost use Rattle.packet_form.specs.Tests.{method_end};
 ghost use Rattle.packet_form.specs.Written.{fewest_node, is_wide_method, args_bytes, target_width, node_number, target_bytes, call_bytes, IsTargetSound, FitsTarget};
 
 use crate::arguments::{call_byte, head_for, is_raw, raw_bytes};

@@ -19,7 +19,7 @@ use Rattle.packet_form.specs.declared.head.Head.{Head}
 use Rattle.packet_form.specs.declared.head.Head.TheVariants as head
 use Rattle.packet_form.specs.Head.{is_plain}
 use Rattle.packet_form.specs.Grammar.{IsValue, IsArgFor, IsCall, IsSpawn, IsPlainOf, IsPayload, IsMessage}
-use Rattle.packet_form.specs.Reading.{is_offset, offset_fits}
+use Rattle.packet_form.specs.Tests.{is_offset, offset_fits}
 use Rattle.packet_form.specs.Wholes.{Fitting, Region, Chosen}
 use Rattle.packet_form.specs.Packets.{Frames}
 use Rattle.peer_steps.specs.Sound.{is_sound_argument, is_sound_message}

@@ -10,7 +10,7 @@ use Rattle.gd_variant.specs.declared.value.Pair.{Pair}
 use Rattle.gd_variant.specs.Tree.{Tree, PairTree, tree_eq, plain, plain_pair, plain_pairs}
 use Rattle.gd_variant.specs.Sound.{is_new_key, keys_distinct}
 use Rattle.variant_codec.specs.Known.{AreKnown, IsKnown, holds}
-use Rattle.variant_codec.specs.Reading.{is_new_to}
+use Rattle.variant_codec.specs.Tests.{is_new_to}
 use Rattle.variant_codec.specs.Written.{written}
 use Rattle.variant_codec.proofs.KnownKeys.{fresh_is}
 

@@ -14,7 +14,7 @@ use Rattle.variant_codec.specs.Breaks.{Breaks, BreaksSmall, IsBad}
 use Rattle.variant_codec.specs.Clauses.{IsFound}
 use Rattle.variant_codec.specs.Grammar.{Spells, SpellsSmall}
 use Rattle.variant_codec.specs.Readers.{Relation, Breaking}
-use Rattle.variant_codec.specs.Reading.{most_levels}
+use Rattle.variant_codec.specs.Tests.{most_levels}
 use Rattle.variant_codec.specs.Written.{written, written_small}
 
 -- a value stands at the front of the bytes: the length of its form, the value, and what is written for it

@@ -9,7 +9,7 @@ use Rattle.gd_variant.specs.Tree.{plain}
 use Rattle.variant_codec.specs.Breaks.{Breaks, IsBad}
 use Rattle.variant_codec.specs.Clauses.{IsFound}
 use Rattle.variant_codec.specs.Grammar.{Spells}
-use Rattle.variant_codec.specs.Reading.{most_levels}
+use Rattle.variant_codec.specs.Tests.{most_levels}
 use Rattle.variant_codec.specs.Written.{written}
 use Rattle.value_cli.specs.declared.repeats.Work.{Work}
 use Rattle.value_cli.specs.declared.repeats.Work.TheVariants.{Copy, Decode, Encode}

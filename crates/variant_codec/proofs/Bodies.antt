@@ -13,7 +13,8 @@ use Rattle.variant_codec.specs.declared.form.Form.{Form}
 use Rattle.variant_codec.specs.declared.form.Form.TheVariants as form
 use Rattle.variant_codec.specs.Parts.{Padded, SpellsText, SpellsElement, SpellsShort, SpellsLong, truth}
 use Rattle.variant_codec.specs.Readers.{Reader, Relation, Breaking, IsRaw, IsShort, IsDone, Mapped, Checked, Then, ThenBreaks, Each, EachOf, EachBreaks, whole_by}
-use Rattle.variant_codec.specs.Reading.{bool_at, int_at, has_names_bit, is_path_flags, path_of, path_at, ints_at, fixed_at, packed_at, bytes_at, packed_shorts_at, packed_longs_at, packed_texts_at, shorts_of, longs_of, texts_of, without_bit, is_new_to, pair_tree, array_by, pair_by, dict_by, body_by}
+use Rattle.variant_codec.specs.Reading.{bool_at, int_at, path_of, path_at, ints_at, fixed_at, packed_at, bytes_at, packed_shorts_at, packed_longs_at, packed_texts_at, shorts_of, longs_of, texts_of, pair_tree, array_by, pair_by, dict_by, body_by}
+use Rattle.variant_codec.specs.Tests.{has_names_bit, is_path_flags, without_bit, is_new_to}
 use Rattle.variant_codec.specs.Breaks.{Word, WordBreaks, TextsBreak, PathBreaks, Pair, PairBreaks, DictBreaks, ArrayBreaks, BodyBreaks}
 use Rattle.variant_codec.proofs.Laws.{IsReader, raw_reader, done_reader, mapped_reader, checked_reader, then_reader, list_reader, whole_reader, seen}
 use Rattle.variant_codec.proofs.Fields.{word32, names_reader, flags_reader, padded_reader, text_reader, element_reader, short_reader, long_reader}

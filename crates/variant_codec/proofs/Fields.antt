@@ -13,7 +13,8 @@ use Rattle.gd_variant.specs.Sound.{has_no_zero, is_text}
 use Rattle.variant_codec.specs.Header.{is_kind, is_carried, has_right_flags, has_room}
 use Rattle.variant_codec.specs.Parts.{padding, Padded, SpellsText, SpellsElement, SpellsShort, SpellsLong, SpellsEach}
 use Rattle.variant_codec.specs.Readers.{Relation, mapped_by, IsWord, IsShort, Mapped, Checked, CheckBreaks, Then, Each}
-use Rattle.variant_codec.specs.Reading.{header_at, padded_of, padded_at, stripped, text_at, element_at, short_at, long_at, names_at, flags_at, has_names_bit, is_path_flags}
+use Rattle.variant_codec.specs.Reading.{header_at, padded_of, padded_at, text_at, element_at, short_at, long_at, names_at, flags_at}
+use Rattle.variant_codec.specs.Tests.{stripped, has_names_bit, is_path_flags}
 use Rattle.variant_codec.specs.Breaks.{Word, WordBreaks, Header, HeaderBreaks, PaddedOf, PaddedBreaks, TextBreaks, ElementBreaks}
 use Rattle.variant_codec.proofs.Laws.{IsReader, word_reader, raw_reader, mapped_reader, checked_reader, then_reader, seen}
 

@@ -16,7 +16,7 @@ use Rattle.gd_variant.specs.declared.value.Pair.{Pair}
 use Rattle.gd_variant.specs.Tree.{Tree, PairTree, plain_pair, tree_eq}
 use Rattle.gd_variant.proofs.Equal.{tree_told}
 use Rattle.variant_codec.specs.Written.{written}
-use Rattle.variant_codec.specs.Reading.{is_new_to}
+use Rattle.variant_codec.specs.Tests.{is_new_to}
 use Rattle.variant_codec.specs.Known.{holds, IsKnown, AreKnown}
 
 not_same : (seen : BTreeSet (Vec ℕ)) (k t : Tree) → holds seen (written k) ≡ false → holds seen (written t) ≡ true → tree_eq k t ≡ false

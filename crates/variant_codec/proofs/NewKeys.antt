@@ -5,7 +5,7 @@ use Rattle.std.specs.List.{list_any}
 use Rattle.std.proofs.lemmas.List.Folds.{list_any_at}
 use Rattle.gd_variant.specs.declared.value.Pair.{Pair}
 use Rattle.gd_variant.specs.Tree.{Tree, tree_eq, plain, plain_pair}
-use Rattle.variant_codec.specs.Reading.{is_new_to}
+use Rattle.variant_codec.specs.Tests.{is_new_to}
 
 abbrev has : Tree → Pair → Bool
 has k p = tree_eq k (plain p.key)

@@ -15,7 +15,8 @@ use Rattle.variant_codec.specs.Header.{flag, form_of}
 use Rattle.variant_codec.specs.Parts.{Headed}
 use Rattle.variant_codec.specs.Grammar.{Spells, SpellsSmallInt, SpellsSmall}
 use Rattle.variant_codec.specs.Readers.{Relation, Mapped, IsShort}
-use Rattle.variant_codec.specs.Reading.{value_at, most_levels, small_int_at, small_by, small_at}
+use Rattle.variant_codec.specs.Reading.{value_at, small_int_at, small_by, small_at}
+use Rattle.variant_codec.specs.Tests.{most_levels}
 use Rattle.variant_codec.specs.Breaks.{is_binary, BreaksSmall}
 use Rattle.variant_codec.proofs.Codes.{ints_head}
 use Rattle.variant_codec.proofs.Fields.{Signed, signed_to, signed_from}

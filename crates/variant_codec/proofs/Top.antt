@@ -18,7 +18,8 @@ use Rattle.gd_variant.proofs.TreeOf.{plain_same}
 use Rattle.variant_codec.specs.Grammar.{Spells, SpellsSmall}
 use Rattle.variant_codec.specs.Written.{written, written_small}
 use Rattle.variant_codec.specs.Readers.{Reader, Relation, Breaking}
-use Rattle.variant_codec.specs.Reading.{value_at, small_at, most_levels}
+use Rattle.variant_codec.specs.Reading.{value_at, small_at}
+use Rattle.variant_codec.specs.Tests.{most_levels}
 use Rattle.variant_codec.specs.Breaks.{Breaks, BreaksSmall, IsBad}
 use Rattle.variant_codec.specs.Clauses.{Begins, Decodes, IsFound, Is, OneFault, ReadsForms, ReadsWritten, FaultsRightly, ReadsFaults, NoneBeginsAnother, ValueOrFault, WritesForms}
 use Rattle.variant_codec.proofs.Laws.{IsReader}

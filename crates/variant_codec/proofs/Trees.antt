@@ -10,7 +10,7 @@ use Rattle.gd_variant.proofs.Equal.{tree_told, tree_again}
 use Rattle.variant_codec.specs.Parts.{count}
 use Rattle.variant_codec.specs.Grammar.{SpellsAll}
 use Rattle.variant_codec.specs.Readers.{Each}
-use Rattle.variant_codec.specs.Reading.{is_new_to}
+use Rattle.variant_codec.specs.Tests.{is_new_to}
 use Rattle.variant_codec.specs.Breaks.{SpellsWithin, Pair}
 
 -- ---- arrays

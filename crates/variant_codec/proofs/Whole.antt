@@ -14,7 +14,8 @@ use Rattle.variant_codec.specs.Header.{flag, header, code_in, is_wide, is_kind, 
 use Rattle.variant_codec.specs.Parts.{Padded, SpellsText, SpellsElement, SpellsShort, SpellsLong, SpellsEach, Headed, Numbered, Counted, shared, truth, SpellsBool, SpellsPath, path_flags, count}
 use Rattle.variant_codec.specs.Grammar.{SpellsInts, SpellsOpaque, Spells, SpellsAll}
 use Rattle.variant_codec.specs.Readers.{Relation, Mapped, Then, EachOf}
-use Rattle.variant_codec.specs.Reading.{is_path_flags, without_bit, value_at}
+use Rattle.variant_codec.specs.Reading.{value_at}
+use Rattle.variant_codec.specs.Tests.{is_path_flags, without_bit}
 use Rattle.variant_codec.specs.Breaks.{Word, Header, SpellsWithin, Breaks}
 use Rattle.variant_codec.proofs.Codes.{told_test, told, head_is, flagless, flagged, code_back, wide_back, head_fits, GoodHead, ints_head, fixed_head, elements_head, or_true}
 use Rattle.variant_codec.proofs.Fields.{each_to, each_from, header_reader}

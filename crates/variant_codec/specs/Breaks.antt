@@ -16,7 +16,7 @@ use Rattle.variant_codec.specs.Header.{code_in, is_wide, is_kind, is_carried, ha
 use Rattle.variant_codec.specs.Parts.{padding, SpellsText, SpellsElement}
 use Rattle.variant_codec.specs.Grammar.{Spells}
 use Rattle.variant_codec.specs.Readers.{Relation, Breaking, IsWord, IsRaw, IsShort, NeverBreaks, Mapped, Checked, CheckBreaks, ThenBreaks, EachOf, EachBreaks}
-use Rattle.variant_codec.specs.Reading.{stripped, has_names_bit, is_path_flags, without_bit, is_new_to, most_levels}
+use Rattle.variant_codec.specs.Tests.{stripped, has_names_bit, is_path_flags, without_bit, is_new_to, most_levels}
 
 -- a word of four bytes
 abbrev pub Word : Relation ℕ

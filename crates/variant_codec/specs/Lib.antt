@@ -3,6 +3,7 @@ pub mod Parts
 pub mod Grammar
 pub mod Written
 pub mod Readers
+pub mod Tests
 pub mod Reading
 pub mod Breaks
 pub mod Clauses

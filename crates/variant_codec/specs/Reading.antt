@@ -1,17 +1,17 @@
 -- Reading a value from left to right, with the first fault that is met.
-use Rattle.std.specs.Prelude.{ℕ, zero, suc, ◌+◌, ◌-◌, ◌*◌, ◌%◌, ℤ, Bool, true, false, not, List, [], length, take, drop, slice_index_or, Ok, Err, nat_eq, nat_lt, nat_le, if◌then◌else◌}
-use Rattle.std.specs.List.{list_any}
+use Rattle.std.specs.Prelude.{ℕ, zero, suc, ◌+◌, ◌-◌, ◌*◌, ℤ, Bool, true, false, List, [], length, take, drop, slice_index_or, Ok, Err, nat_eq, nat_lt, if◌then◌else◌}
 use Rattle.std.specs.Int.{Width, w8, w16, w32, w64}
 use Rattle.byte_fields.specs.Fields.{fault, number_at}
 use Rattle.byte_fields.specs.Complement.{signed_of, half8, half16, half32, half64}
 use Rattle.gd_variant.specs.declared.message.Why.TheVariants.{HeaderBits, Kind, NotCarried, Utf8, Depth, OldPath, PathFlags, RepeatedKey}
-use Rattle.gd_variant.specs.Tree.{Tree, nil, boolean, int, text, name, path, ints, opaque, dict, array, packed_bytes, packed_ints, packed_texts, trees_of, PairTree, pairs_of, tree_eq}
+use Rattle.gd_variant.specs.Tree.{Tree, nil, boolean, int, text, name, path, ints, opaque, dict, array, packed_bytes, packed_ints, packed_texts, trees_of, PairTree, pairs_of}
 use Rattle.gd_variant.specs.Sound.{is_text, ints_count, components, at_or, component_size, element_size}
 use Rattle.variant_codec.specs.declared.form.Form.{Form}
 use Rattle.variant_codec.specs.declared.form.Form.TheVariants as form
 use Rattle.variant_codec.specs.Header.{code_in, is_wide, is_kind, is_carried, has_right_flags, has_room, form_of}
 use Rattle.variant_codec.specs.Parts.{padding, truth}
 use Rattle.variant_codec.specs.Readers.{Reader, raw_at, done_at, mapped_by, checked_by, then_by, list_by, whole_by}
+use Rattle.variant_codec.specs.Tests.{most_levels, stripped, without_bit, has_names_bit, is_path_flags, is_new_to}
 
 -- a header, by the order of its faults
 unfoldable pub header_at : Bool → Reader ℕ
@@ -23,10 +23,6 @@ padded_of n = mapped_by (take n) (raw_at (n + padding n))
 
 unfoldable pub padded_at : Reader (List ℕ)
 padded_at = then_by (number_at w32) padded_of
-
--- without one zero byte at the end
-abbrev pub stripped : List ℕ → List ℕ
-stripped s = if nat_eq (slice_index_or s (length s - 1) 1) 0 then take (length s - 1) s else s
 
 unfoldable pub text_at : Reader (List ℕ)
 text_at = then_by (number_at w32) (λ n. checked_by is_text Utf8 (padded_of n))
@@ -58,13 +54,6 @@ bool_at = mapped_by (λ n. boolean (truth n)) (number_at w32)
 
 unfoldable pub int_at : Bool → Reader Tree
 int_at wide = mapped_by int (if wide then long_at else short_at)
-
--- bit 31 has to be set
-abbrev pub has_names_bit : ℕ → Bool
-has_names_bit n = nat_le 2147483648 n
-
-abbrev pub is_path_flags : ℕ → Bool
-is_path_flags n = nat_le n 1
 
 unfoldable pub names_at : Reader ℕ
 names_at = checked_by has_names_bit OldPath (number_at w32)
@@ -99,16 +88,8 @@ packed_longs_at = then_by (number_at w32) (λ n. mapped_by (λ zs. packed_ints t
 unfoldable pub packed_texts_at : Reader Tree
 packed_texts_at = then_by (number_at w32) (λ n. mapped_by packed_texts (elements_of n))
 
--- the number in a count, without the shared bit
-abbrev pub without_bit : ℕ → ℕ
-without_bit n = n % 2147483648
-
 unfoldable pub array_by : Reader Tree → Reader Tree
 array_by values = then_by (number_at w32) (λ n. mapped_by (λ ts. array (trees_of ts)) (list_by (λ _. values) [] (without_bit n)))
-
--- whether a key is none of the keys of some pairs
-abbrev pub is_new_to : List PairTree → Tree → Bool
-is_new_to ps k = not (list_any (λ p. tree_eq k p.key) ps)
 
 abbrev pub pair_tree : Tree → Tree → PairTree
 pair_tree k v = record { key = k; value = v }
@@ -142,10 +123,6 @@ body_by values form.Elements code wide = packed_at code wide
 unfoldable pub value_at : ℕ → Reader Tree
 value_at zero bytes = Err (fault (length bytes) Depth)
 value_at (suc n) bytes = then_by (header_at (nat_lt 0 n)) (λ head. body_by (value_at n) (form_of (code_in head)) (code_in head) (is_wide head)) bytes
-
--- 32 levels of dictionaries and arrays, and a value inside
-abbrev pub most_levels : ℕ
-most_levels = 33
 
 -- a compressed number behind its first byte
 unfoldable pub small_int_at : Width → ℕ → Reader Tree

@@ -5,7 +5,8 @@ ghost use Rattle.gd_variant.specs.Size.{tree_size, small_tree_size};
 ghost use Rattle.gd_variant.specs.Sound.{is_sound};
 ghost use Rattle.variant_codec.specs.Grammar.{Spells, SpellsSmall};
 ghost use Rattle.variant_codec.specs.Written.{written, written_small};
-ghost use Rattle.variant_codec.specs.Reading.{value_at, small_at, most_levels};
+ghost use Rattle.variant_codec.specs.Reading.{value_at, small_at};
+ghost use Rattle.variant_codec.specs.Tests.{most_levels};
 ghost use Rattle.variant_codec.specs.Breaks.{Breaks, BreaksSmall};
 ghost use Rattle.variant_codec.specs.Clauses.{Decodes, IsFound, ReadsForms, ReadsWritten, FaultsRightly, ReadsFaults, NoneBeginsAnother, ValueOrFault, WritesForms};
 

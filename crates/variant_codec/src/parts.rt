@@ -10,7 +10,8 @@ ghost use Rattle.std.specs.Int.RustNames.{FitsSigned};
 ghost use Rattle.variant_codec.specs.Header.{may_be_flagged};
 ghost use Rattle.variant_codec.specs.Parts.{padding};
 ghost use Rattle.variant_codec.specs.Readers.{raw_at};
-ghost use Rattle.variant_codec.specs.Reading.{header_at, padded_of, padded_at, stripped, text_at, element_at, short_at, long_at, shorts_of, longs_of, texts_of, elements_of, bool_at, int_at, names_at, flags_at};
+ghost use Rattle.variant_codec.specs.Reading.{header_at, padded_of, padded_at, text_at, element_at, short_at, long_at, shorts_of, longs_of, texts_of, elements_of, bool_at, int_at, names_at, flags_at};
+ghost use Rattle.variant_codec.specs.Tests.{stripped};
 
 use byte_fields::{Fault, ReadError, u32_at, u64_at};
 use gd_variant::{List32, List64, OutOfMemory, Text, TextRun, Variant, Why, code_may_be_wide};

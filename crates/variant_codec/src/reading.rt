@@ -8,7 +8,8 @@ ghost use Rattle.variant_codec.specs.Known.{IsKnown, AreKnown};
 ghost use Rattle.gd_variant.specs.declared.message.Why.TheVariants.{RepeatedKey};
 ghost use Rattle.variant_codec.specs.Header.{form_of};
 ghost use Rattle.variant_codec.specs.Readers.{checked_by, list_by};
-ghost use Rattle.variant_codec.specs.Reading.{bool_at, int_at, names_at, flags_at, shorts_of, path_of, path_at, ints_at, fixed_at, packed_at, bytes_at, packed_shorts_at, packed_longs_at, packed_texts_at, array_by, is_new_to, pair_by, dict_by, body_by, value_at, small_int_at, small_by, small_at};
+ghost use Rattle.variant_codec.specs.Reading.{bool_at, int_at, names_at, flags_at, shorts_of, path_of, path_at, ints_at, fixed_at, packed_at, bytes_at, packed_shorts_at, packed_longs_at, packed_texts_at, array_by, pair_by, dict_by, body_by, value_at, small_int_at, small_by, small_at};
+ghost use Rattle.variant_codec.specs.Tests.{is_new_to};
 
 use crate::form::{Form, form_of};
 use crate::parts::{

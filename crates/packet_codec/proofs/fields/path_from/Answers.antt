@@ -1,5 +1,5 @@
 use Rattle.std.proofs.lemmas.List.Sums.{prefix_len-le-length}
-use Rattle.packet_form.specs.Reading.{is_some}
+use Rattle.packet_form.specs.Tests.{is_some}
 use Rattle.packet_codec.proofs.Texts.{front_passes}
 use Rattle.packet_codec.proofs.fields.path_from.Goals as goal
 

@@ -1,6 +1,6 @@
 use Rattle.std.proofs.Common.{◌≡◌, true, take, map}
 use Rattle.gd_variant.specs.Tree.{plain, plain_pair}
-use Rattle.variant_codec.specs.Reading.{is_new_to}
+use Rattle.variant_codec.specs.Tests.{is_new_to}
 use Rattle.variant_codec.proofs.reading.is_new.Given as goal
 
 -- no pair in front has the key
