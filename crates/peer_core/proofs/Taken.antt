@@ -18,7 +18,7 @@ use Rattle.scene_model.specs.declared.outcome.Outcome.TheVariants.{Refused}
 use Rattle.scene_model.specs.declared.outcome.Out.{Out}
 use Rattle.scene_model.specs.declared.outcome.Fault.{Fault}
 use Rattle.scene_model.specs.declared.outcome.Refusal.{Refusal}
-use Rattle.scene_model.specs.declared.outcome.Refusal.TheVariants.{BadPeer, NoPeer}
+use Rattle.scene_model.specs.declared.outcome.Refusal.TheVariants.{BadPeer}
 use Rattle.headless_tree.specs.Nodes.{TreeOf}
 use Rattle.peer_steps.specs.declared.rows.SpawnedRow.{SpawnedRow}
 use Rattle.peer_steps.specs.Calls.{shown_to_each}
@@ -30,7 +30,7 @@ use Rattle.scene_model.specs.Valid.{IsValidScene}
 use Rattle.peer_steps.specs.Peers.{Peers, no_peers, comes_judged, peers_after, peer_comes, peer_goes, without_peer}
 use Rattle.peer_steps.specs.Sites.{own_made}
 use Rattle.peer_steps.specs.Sound.{is_sound_spawn}
-use Rattle.peer_steps.specs.Steps.{Taken, unchanged, done_with, row_packet, sent_to, open_rows, up_answer, up_taken, link_taken, spawn_answer, spawn_taken, shows_of, shown_answer, shown_taken, spawn_read, message_taken, linked_taken, read_taken}
+use Rattle.peer_steps.specs.Steps.{Taken, unchanged, done_with, row_packet, sent_to, open_rows, up_answer, up_taken, link_taken, spawn_answer, spawn_taken, shows_of, linked_taken, read_taken}
 use Rattle.peer_steps.specs.Track.{Track, no_rows, Spawned, track_after, own_spawn, shown_spawn, tree_without}
 use Rattle.peer_steps.proofs.Fitting.{fits_start, fits_without, fits_set, fits_spawn, fits_shown}
 use Rattle.peer_steps.proofs.Clauses.{start_stands}
@@ -130,10 +130,6 @@ spawned p t u r w op f o made answer =
     ap₂ {C = Taken} (λ (x : Outcome) (j : Kept). record { outcome = x; kept = j }) (answer ∙ ap (λ j. spawn_answer packet_form j (own_made p.me t.scene r.next op) f) same) same
     ∙ ap (spawn_taken packet_form (parts_kept false p t r) op) made
 
-pub spawn_refused : (p : Peers) (t u : TreeOf) (r w : Track) (op : SpawnOp) (f : Option Refusal) (x : Refusal) → record { refused = f; track = w; tree = u } ≡ own_spawn p.me op r t → f ≡ Some x
-    → record { outcome = Refused x; kept = parts_kept false p u w } ≡ spawn_taken packet_form (parts_kept false p t r) op (own_spawn p.me op r t)
-spawn_refused p t u r w op f x made is = spawned p t u r w op f (Refused x) made (sym (ap (spawn_answer packet_form (parts_kept false p u w) (own_made p.me t.scene r.next op)) is))
-
 -- the row that a spawn makes is the newest
 pub newest_made : (p : Peers) (t u : TreeOf) (r w : Track) (op : SpawnOp) (f : Option Refusal) → record { refused = f; track = w; tree = u } ≡ own_spawn p.me op r t → f ≡ None
     → slice_get w.rows (length w.rows - 1) ≡ Some (own_made p.me t.scene r.next op)
@@ -147,15 +143,7 @@ pub spawn_is : (p : Peers) (t u : TreeOf) (r w : Track) (op : SpawnOp) (f : Opti
     → record { outcome = o; kept = parts_kept false p u w } ≡ spawn_taken packet_form (parts_kept false p t r) op (own_spawn p.me op r t)
 spawn_is p t u r w op f o made is answer = spawned p t u r w op f o made (answer ∙ sym (ap (spawn_answer packet_form (parts_kept false p u w) (own_made p.me t.scene r.next op)) is))
 
--- a received spawn
-
-pub shown_is : (p : Peers) (t u : TreeOf) (r : Track) (from : ℤ) (m : SpawnMsg) (f : Option Fault) (o : Outcome) → (f, u) ≡ shown_spawn from m t → o ≡ shown_answer f
-    → record { outcome = o; kept = parts_kept false p u r } ≡ shown_taken (parts_kept false p t r) (shown_spawn from m t)
-shown_is p t u r from m f o made answer =
-    ap₂ {C = Taken} (λ (x : Outcome) (j : Kept). record { outcome = x; kept = j }) answer (with_nodes p t u r r (ap (λ (x : Option Fault × TreeOf). x.1.scene) made))
-    ∙ ap (shown_taken (parts_kept false p t r)) made
-
--- the parts fit after both
+-- the parts fit after an own spawn, and after a received one
 
 pub spawn_fits : (p : Peers) (t u : TreeOf) (r w : Track) (me : ℤ) (op : SpawnOp) (f : Option Refusal) → me ≡ p.me → is_some op.scene ≡ true → list_all (λ (q : Prop). is_sound q.value) op.sets ≡ true
     → record { refused = f; track = w; tree = u } ≡ own_spawn me op r t → Fits p.me t r → Fits p.me u w
@@ -177,29 +165,12 @@ if_spawned (Ok o) k s p t u r w me op f is live same made none answer =
     (spawn_is p t u r w op f o own none (answer (own_made p.me t.scene r.next op) (newest_made p t u r w op f own none)))
 if_spawned (Err e) k s p t u r w me op f is live same made none answer = tt
 
-pub then_refused : (k : Kept) (s : Bool) (p : Peers) (t u : TreeOf) (r w : Track) (me : ℤ) (op : SpawnOp) (f : Option Refusal) (x : Refusal) → parts_kept s p t r ≡ k → k.spent ≡ false → me ≡ p.me
-    → record { refused = f; track = w; tree = u } ≡ own_spawn me op r t → f ≡ Some x
-    → record { outcome = Refused x; kept = parts_kept false p u w } ≡ spawn_taken packet_form k op (own_spawn k.who.id op k.track (kept_tree k))
-then_refused k s p t u r w me op f x is live same made some =
-    let own = made ∙ ap (λ (m : ℤ). own_spawn m op r t) same in
-    by_parts (λ j. spawn_taken packet_form j op (own_spawn j.who.id op j.track (kept_tree j))) (record { outcome = Refused x; kept = parts_kept false p u w }) k s p t r is live (spawn_refused p t u r w op f x own some)
-
-pub then_shown : (k : Kept) (s : Bool) (p : Peers) (t u : TreeOf) (r : Track) (from : ℤ) (m : SpawnMsg) (f : Option Fault) (o : Outcome) → parts_kept s p t r ≡ k → k.spent ≡ false → (f, u) ≡ shown_spawn from m t → o ≡ shown_answer f
-    → record { outcome = o; kept = parts_kept false p u r } ≡ shown_taken k (shown_spawn from m (kept_tree k))
-then_shown k s p t u r from m f o is live made answer =
-    by_parts (λ j. shown_taken j (shown_spawn from m (kept_tree j))) (record { outcome = o; kept = parts_kept false p u r }) k s p t r is live (shown_is p t u r from m f o made answer)
-
 -- a received packet
 
 -- what is said of an answer that there is
 if_same : (x : Result Outcome OutOfMemory) (after : Kept) (t u : Taken) → t ≡ u → IfOk x (λ o. ◌≡◌ {A = Taken} (record { outcome = o; kept = after }) t) → IfOk x (λ o. ◌≡◌ {A = Taken} (record { outcome = o; kept = after }) u)
 if_same (Ok o) after t u e h = h ∙ e
 if_same (Err y) after t u e h = tt
-
--- a message that is a spawn, from a link that is up
-pub if_shown : (x : Result Outcome OutOfMemory) (after k : Kept) (from : ℤ) (m : Message) (s : SpawnMsg) (f : Option Fault) → f ≡ None → f ≡ link_judged k.peers from → Some s ≡ spawn_read m
-    → IfOk x (λ o. ◌≡◌ {A = Taken} (record { outcome = o; kept = after }) (shown_taken k (shown_spawn from s (kept_tree k)))) → IfOk x (λ o. ◌≡◌ {A = Taken} (record { outcome = o; kept = after }) (linked_taken k from m (link_judged k.peers from)))
-if_shown x after k from m s f none judged is h = if_same x after _ _ (ap (message_taken k from) is ∙ ap (linked_taken k from m) (sym none ∙ judged)) h
 
 pub if_read : (x : Result Outcome OutOfMemory) (after k : Kept) (from : ℤ) (m : Message) (r : Result Message Bad) → r ≡ Ok m
     → IfOk x (λ o. ◌≡◌ {A = Taken} (record { outcome = o; kept = after }) (linked_taken k from m (link_judged k.peers from))) → IfOk x (λ o. ◌≡◌ {A = Taken} (record { outcome = o; kept = after }) (read_taken k from r))
