@@ -41,8 +41,8 @@ const SHOWN: &str = r#"["despawn",1]
 /// source gives; and the call of `take` and the call of `put` that fail (0: none).
 ///
 /// In pieces of 40 bytes the scene line ends in piece 5, the lines behind it in pieces 5, 6, 6 and 6, and
-/// piece 7 is the end. In pieces of 10 bytes the packets of lines 1, 2 and 3 end in piece 2, and line 4
-/// in piece 3.
+/// piece 7 is the end. In pieces of 10 bytes the packets of lines 1, 2 and 3 end in piece 2, line 4 in
+/// piece 3, line 5 with the input. What one piece gives is put in one call.
 const RUNS: &str = "0 10: replay 40 0 0
 7 0: replay 40 1 0
 7 0: replay 40 2 0
@@ -51,8 +51,7 @@ const RUNS: &str = "0 10: replay 40 0 0
 7 10: replay 40 7 0
 8 0: replay 40 0 1
 8 2: replay 40 0 2
-8 4: replay 40 0 3
-8 5: replay 40 0 4
+0 10: replay 40 0 3
 0 5: show 10 0 0
 7 0: show 10 1 0
 7 0: show 10 2 0
@@ -61,10 +60,9 @@ const RUNS: &str = "0 10: replay 40 0 0
 7 4: show 10 5 0
 7 4: show 10 6 0
 8 0: show 10 0 1
-8 1: show 10 0 2
-8 2: show 10 0 3
-8 3: show 10 0 4
-8 4: show 10 0 5";
+8 3: show 10 0 2
+8 4: show 10 0 3
+0 5: show 10 0 4";
 
 /// How many lines are held, where they are the first of those that a run writes, whole.
 fn count_lines(held: &str, written: &str) -> Option<usize> {

@@ -3,58 +3,82 @@ ghost use Rattle.std.specs.Prelude.{◌≡◌, ◌∷◌, [], Ok, Err, if◌then
 ghost use Rattle.std.specs.List.{list_any};
 ghost use Rattle.program_edge.specs.declared.status.LineWhy.TheVariants.{Hex};
 ghost use Rattle.program_edge.specs.declared.status.Status.TheVariants as status;
+ghost use Rattle.line_runs.specs.Output.{behind, stops};
 
 use crate::rows::{check, with_line_feeds};
-use gd_variant::Bytes;
-use line_runs::{LineTaker, run_lines};
+use gd_variant::OutOfMemory;
+use line_runs::{Behind, LineTaker, run_lines};
 use program_edge::{LineStop, LineWhy, MemSink, MemSource, Status};
 use std::alloc::Global;
 
 /// The exit status and how many lines are written; the most bytes of a line and the most bytes of the
 /// input that are judged; and the input, in which `/` stands for a line feed.
-const LIMITS: &str = "0 2: 4 10:0505/0606/
+const LIMITS: &str = "0 3: 4 10:0505/0606/
 5 2: 4 10:0505/0606//
 5 1: 4 9:0505/0606/
-0 2: 4 9:0505/0606
+0 3: 4 9:0505/0606
 5 1: 4 9:0505/06060
 4 1: 4 10:0505/06060
 4 0: 4 10:050g5/
 3 0: 5 10:050g5/
 5 0: 5 5:050g5/
 3 0: 5 5:050g5
-0 0: 4 0:
-5 0: 4 0:/";
+0 1: 4 0:
+5 0: 4 0:/
+0 3: 4 7:0505/e/0g/
+0 3: 4 6:0505/e
+5 1: 4 6:0505/e/
+4 1: 4 10:0505/0505e";
 
-/// Whether a line has a `g`.
-fn has_g(line: &[u8]) -> bool
-    ensures { result ≡ list_any (λ byte. nat_eq byte 103) line.now }
+/// Whether a line has this byte.
+fn has(line: &[u8], byte: u8) -> bool
+    ensures { result ≡ list_any (λ b. nat_eq b byte) line.now }
 {
-    line.iter().any(|byte| *byte == b'g')
+    line.iter().any(|b| *b == byte)
 }
 
-/// Answers each line by an empty line, but finds one with a `g` wrong.
+/// Answers each line by an empty line, but finds one with a `g` wrong. A line with an `e` ends the input,
+/// whose end gives one more empty line.
 #[derive(Drop)]
 struct Blank;
 
 impl LineTaker for Blank {
-    ghost told = { λ ls line. if list_any (λ byte. nat_eq byte 103) line then Err Hex else Ok (10 ∷ []) };
-
-    ghost nothing = { status.Done };
+    ghost command = { record { told = λ ls line. if list_any (λ b. nat_eq b 103) line then Err Hex else Ok (10 ∷ []); is_last = λ ls line. list_any (λ b. nat_eq b 101) line; closing = λ ls. behind ((10 ∷ []) ∷ []) (stops status.Done) } };
 
     ghost reasons = { λ why. why ≡ Hex };
 
     ghost took = { λ s ls. Unit {0} };
 
-    fn take(&mut self, alloc: Global, _n: u64, line: &[u8]) -> Result<Bytes, LineStop> {
-        if has_g(line) {
+    ghost known = { λ ls. Unit {0} };
+
+    fn take(
+        &mut self,
+        _alloc: Global,
+        _n: u64,
+        line: &[u8],
+        text: &mut Vec<u8>,
+    ) -> Result<Behind, LineStop> {
+        if has(line, b'g') {
             return Err(LineStop::LineBad(LineWhy::Hex));
         }
-        Ok(Bytes::from_slice(alloc, b"\n")?)
+        text.push(b'\n')?;
+        if has(line, b'e') {
+            return Ok(Behind::End);
+        }
+        Ok(Behind::Lines)
     }
 
-    fn without_lines(&self) -> Status {
-        Status::Done
+    fn close(
+        &mut self,
+        _alloc: Global,
+        _n: u64,
+        text: &mut Vec<u8>,
+    ) -> Result<Status, OutOfMemory> {
+        text.push(b'\n')?;
+        Ok(Status::Done)
     }
+
+    ghost knows = { λ s ls taken. tt };
 }
 
 /// The exit status of a run with these limits, and how many lines are written.
