@@ -1,3 +1,4 @@
 pub mod Laws
+pub mod Texts
 pub mod Typed
 pub mod Written

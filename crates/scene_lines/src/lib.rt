@@ -1,6 +1,6 @@
-//! The law that a scene is read of the line that is written of it. It has no code.
+//! The laws that a scene is read of the line that is written of it. It has no code.
 #![tactic(auto)]
 
 mod laws;
 
-pub use laws::written_scenes_are_read;
+pub use laws::{written_scenes_are_read, written_texts_are_read};
