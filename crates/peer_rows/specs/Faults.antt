@@ -26,6 +26,10 @@ call_b number args = packet.Call (At (codes "b")) number args
 abbrev pub CountFirst : Type 0
 CountFirst = reply_after server (up 3 ∷ []) (got_packet 3 (call_b 0 (int 1 ∷ []))) ≡ fault fault_row.ArgCount
 
+-- the count of arguments comes before their lengths
+abbrev pub CountBeforeLength : Type 0
+CountBeforeLength = reply_after server (up 3 ∷ []) (got_packet 3 (call_b 0 (long_value 65529 ∷ []))) ≡ fault fault_row.ArgCount
+
 -- the length of an argument before the mode
 abbrev pub LengthBeforeMode : Type 0
 LengthBeforeMode = reply_after server (up 3 ∷ []) (got_packet 3 (call_b 1 (long_value 65529 ∷ []))) ≡ fault fault_row.ArgLong

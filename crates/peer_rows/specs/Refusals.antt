@@ -53,6 +53,10 @@ LongSetting = reply_after server [] (spawn (codes "a/sp") (codes "q") (codes "y"
 abbrev pub CallCountFirst : Type 0
 CallCountFirst = reply_after server [] (call 0 (codes "b") (codes "end") (int 1 ∷ [])) ≡ refused refusal.ArgCount
 
+-- the number of arguments before their lengths
+abbrev pub CallCountBeforeLength : Type 0
+CallCountBeforeLength = reply_after server [] (call 0 (codes "b") (codes "end") (long_value 65529 ∷ [])) ≡ refused refusal.ArgCount
+
 -- the length of an argument before the mode
 abbrev pub CallLengthBeforeMode : Type 0
 CallLengthBeforeMode = reply_after server [] (call 0 (codes "b") (codes "own") (long_value 65529 ∷ [])) ≡ refused refusal.ArgLong

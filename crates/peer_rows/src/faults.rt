@@ -1,7 +1,11 @@
-ghost use Rattle.peer_rows.specs.Faults.{CountFirst, LengthBeforeMode, NameDiffersFirst, GreatestName, NoNameFirst, NameRefused, OneNumberTwice, NumberOfASynchronizer, RangeFirst, TooFewSynchronizers, NameBeforeValues, NoDespawnOfASynchronizer, LongArgumentCame, LongSample, BitTooHigh, RelayToOneThatIsGone, RelayToTheServer, RelayToItsSender, NoSecondNews, NoNewsOfItself, NoNewsOfTheServer, NoLinkBetweenClients, MalformedFirst, NoSuchScene, OtherMethods, WrongNameFirst, RowsAreFull};
+ghost use Rattle.peer_rows.specs.Faults.{CountFirst, CountBeforeLength, LengthBeforeMode, NameDiffersFirst, GreatestName, NoNameFirst, NameRefused, OneNumberTwice, NumberOfASynchronizer, RangeFirst, TooFewSynchronizers, NameBeforeValues, NoDespawnOfASynchronizer, LongArgumentCame, LongSample, BitTooHigh, RelayToOneThatIsGone, RelayToTheServer, RelayToItsSender, NoSecondNews, NoNewsOfItself, NoNewsOfTheServer, NoLinkBetweenClients, MalformedFirst, NoSuchScene, OtherMethods, WrongNameFirst, RowsAreFull};
 
 pub fn count_first()
     ensures { CountFirst }
+{}
+
+pub fn count_before_length()
+    ensures { CountBeforeLength }
 {}
 
 pub fn length_before_mode()

@@ -1,4 +1,4 @@
-ghost use Rattle.peer_rows.specs.Refusals.{NoSpawnerFirst, AuthorityBeforeScene, NameBeforeLimit, LimitIsOfTheSpawner, AuthorityBeforeProp, NotSpawnedFirst, NoSyncFirst, NoThirdSynchronizer, LongArgument, LongSetting, CallCountFirst, CallLengthBeforeMode, NoCallToOneThatIsGone, NoRawToItself, NoSecondUp, OnlyTheServerComesUp, ModeBeforeItself, WrongNameFirst};
+ghost use Rattle.peer_rows.specs.Refusals.{NoSpawnerFirst, AuthorityBeforeScene, NameBeforeLimit, LimitIsOfTheSpawner, AuthorityBeforeProp, NotSpawnedFirst, NoSyncFirst, NoThirdSynchronizer, LongArgument, LongSetting, CallCountFirst, CallCountBeforeLength, CallLengthBeforeMode, NoCallToOneThatIsGone, NoRawToItself, NoSecondUp, OnlyTheServerComesUp, ModeBeforeItself, WrongNameFirst};
 
 pub fn no_spawner_first()
     ensures { NoSpawnerFirst }
@@ -42,6 +42,10 @@ pub fn long_setting()
 
 pub fn call_count_first()
     ensures { CallCountFirst }
+{}
+
+pub fn call_count_before_length()
+    ensures { CallCountBeforeLength }
 {}
 
 pub fn call_length_before_mode()
