@@ -1,15 +1,17 @@
 -- Limits, at their edges.
-use Rattle.std.specs.Prelude.{◌≡◌, ℕ, zero, suc, ◌+◌, pos, true, false, List, [], ◌∷◌, ◌++◌, length, Some, None, codes, replicate}
+use Rattle.std.specs.Prelude.{◌≡◌, ℕ, zero, suc, ◌+◌, pos, Bool, true, false, Option, List, [], ◌∷◌, ◌++◌, length, Some, None, codes, replicate}
 use Rattle.gd_variant.specs.declared.value.Variant.{Variant}
 use Rattle.gd_variant.specs.declared.value.Variant.TheVariants.{Text, PackedBytes}
 use Rattle.gd_variant.specs.declared.message.Plain.TheVariants as packet
+use Rattle.scene_model.specs.declared.event.SpawnOp.{SpawnOp}
+use Rattle.scene_model.specs.declared.outcome.Refusal.{Refusal}
 use Rattle.scene_model.specs.declared.outcome.Refusal.TheVariants as refusal
 use Rattle.peer_model.specs.Heard.{Heard}
 use Rattle.peer_model.specs.Peers.{peers_up}
 use Rattle.peer_model.specs.Names.{last_path_id, within_ids}
 use Rattle.peer_model.specs.Ticks.{tick_of, widen}
-use Rattle.peer_model.specs.Refusals.{most_rows, most_net_id, most_peers_set, most_filters, most_tick, most_clients, most_packet, call_size, frame_refusal}
-use Rattle.peer_model.specs.View.{fits}
+use Rattle.peer_model.specs.Refusals.{most_rows, most_net_id, most_peers_set, most_filters, most_tick, most_clients, most_packet, call_size, spawn_refused, frame_refusal}
+use Rattle.peer_model.specs.View.{fits, node_at}
 use Rattle.peer_model.specs.Answer.{refused}
 use Rattle.peer_rows.specs.Session.{raw, up, sends, only, nothing, reply_after}
 use Rattle.peer_rows.specs.SceneF.{server}
@@ -53,3 +55,22 @@ LongestRaw = (bytes : List ℕ) → (length bytes ≡ 7999999 → reply_after se
 -- the last frame of a pair
 abbrev pub LastTick : Type 0
 LastTick = (es : List Heard) → peers_up es ≡ pos 2 ∷ [] → (tick_of es (pos 2) ≡ 281474976710655 → frame_refusal es ≡ None) × (tick_of es (pos 2) ≡ 281474976710656 → frame_refusal es ≡ Some refusal.TicksFull)
+
+-- a spawn where its spawner is full or not, beside as many own rows, whose last number is this
+abbrev pub spawn_y : SpawnOp
+spawn_y = record { spawner = codes "a/sp"; scene = Some (codes "q"); name = codes "y"; sets = []; arg = None }
+
+abbrev pub spawn_beside : Bool → ℕ → ℕ → Option Refusal
+spawn_beside full rows last = spawn_refused server (node_at server []) full rows last spawn_y
+
+-- the last own row
+abbrev pub LastOwnRow : Type 0
+LastOwnRow = (spawn_beside false 4095 8000 ≡ None) × (spawn_beside false 4096 8000 ≡ Some refusal.NodesFull)
+
+-- the last number of a row or synchronizer
+abbrev pub LastNumber : Type 0
+LastNumber = (spawn_beside false 1 2147483647 ≡ None) × (spawn_beside false 1 2147483648 ≡ Some refusal.NetIdsFull)
+
+-- the spawner's limit comes before the rows, and these before the numbers
+abbrev pub LimitBeforeRows : Type 0
+LimitBeforeRows = (spawn_beside true 4096 2147483648 ≡ Some refusal.SpawnLimit) × (spawn_beside false 4096 2147483648 ≡ Some refusal.NodesFull)

@@ -1,4 +1,4 @@
-ghost use Rattle.peer_rows.specs.Limits.{TheLimits, LastPathId, LongestValue, WidenTie, SixtyFourClients, CallSizes, LongestRaw, LastTick};
+ghost use Rattle.peer_rows.specs.Limits.{TheLimits, LastPathId, LongestValue, WidenTie, SixtyFourClients, CallSizes, LongestRaw, LastTick, LastOwnRow, LastNumber, LimitBeforeRows};
 
 pub fn the_limits()
     ensures { TheLimits }
@@ -30,4 +30,16 @@ pub fn longest_raw()
 
 pub fn last_tick()
     ensures { LastTick }
+{}
+
+pub fn last_own_row()
+    ensures { LastOwnRow }
+{}
+
+pub fn last_number()
+    ensures { LastNumber }
+{}
+
+pub fn limit_before_rows()
+    ensures { LimitBeforeRows }
 {}
