@@ -22,7 +22,8 @@ use Rattle.packet_form.specs.Grammar.{IsValue, IsArgFor, IsCall, IsSpawn, IsPlai
 use Rattle.packet_form.specs.Tests.{is_offset, offset_fits}
 use Rattle.packet_form.specs.Wholes.{Fitting, Region, Chosen}
 use Rattle.packet_form.specs.Packets.{Frames}
-use Rattle.peer_steps.specs.Sound.{is_sound_argument, is_sound_message}
+use Rattle.peer_steps.specs.Arguments.{is_sound_argument}
+use Rattle.peer_steps.specs.Sound.{is_sound_message}
 
 -- what stands in at most as many bytes as a packet has passes a test
 record AllPass {X : Type 0} (p : X → Bool) (R : Relation X) : Type 0 where

@@ -1,12 +1,8 @@
-use Rattle.std.proofs.Common.{◌-◌, ap, ◌∙◌, length, List}
-use Rattle.std.specs.Prelude.{slice_get}
+use Rattle.std.proofs.Common.{◌-◌, ap, ◌∙◌, length}
 use Rattle.peer_steps.specs.Kept.{Kept}
-use Rattle.peer_steps.specs.declared.rows.SpawnedRow.{SpawnedRow}
-use Rattle.peer_steps.specs.Calls.{shown_to_each}
-use Rattle.peer_core.specs.Forms.{packet_form}
-use Rattle.peer_core.proofs.Taken.{shows_newest}
+use Rattle.peer_steps.specs.Rights.{is_right_row}
+use Rattle.peer_core.proofs.Taken.{one_right}
 use Rattle.peer_core.proofs.peer.Peer.show_newest.Goals as goal
 
-pub returns-in_ok-packets-in-Some : goal.returns-in_ok-packets-in-Some
-returns-in_ok-packets-in-Some c = λ row h. shows_newest c.args.self.now c.self.inside.spent c.self.inside.peers c.self.inside.tree c.self.inside.track row c.in-Some.row.now c.in_ok-packets-in-Some.packets c.done.result
-    c.self.view_is (c.in-Some.ensures.value ∙ ap (λ (rows : List SpawnedRow). slice_get rows (length rows - 1)) (c.rows.ensures ∙ ap (λ (k : Kept). k.track.rows) c.self.view_is) ∙ h) (c.in_ok-packets-in-Some.ensures ∙ ap (λ up. shown_to_each packet_form c.self.inside.tree.scene c.self.inside.tree.nodes up c.in-Some.row.now) c.up_now.ensures) c.done.ensures
+pub show_to_each-requires-clause-row : goal.show_to_each-requires-clause-row
+show_to_each-requires-clause-row c = one_right (is_right_row c.self.inside.tree.scene) c.rows.result.now c.self.inside.track.rows _ c.in-Some.row.now c.in-Some.ensures.value c.rows.ensures (c.self.invariant (ap (λ (k : Kept). k.spent) c.self.view_is ∙ c.requires)).fits.rows
