@@ -40,3 +40,7 @@ abbrev pub IsLong : Status → Type 0
 IsLong (status.LineLong n) = Unit {0}
 IsLong status.InputLong = Unit {0}
 IsLong s = ⊥
+
+-- a line may stop a run for any reason
+abbrev pub AnyReason : LineWhy → Type 0
+AnyReason reason = Unit {0}

@@ -18,7 +18,7 @@ use Rattle.line_text.specs.Held.{held, prop_names, prop_values, op_values, is_pe
 use Rattle.line_text.specs.WrittenLines.{setting_data, op_data, session_data, has_bytes, ReadsSessions}
 use Rattle.line_text.proofs.ReadBack.{text_back, list_back, reads_written}
 
-peer_back : (p : ℤ) → is_peer p ≡ true → peer_read (int_of p) ≡ Ok p
+pub peer_back : (p : ℤ) → is_peer p ≡ true → peer_read (int_of p) ≡ Ok p
 unfolding peer_read nat_read
 peer_back (pos n) h = rw h refl
 peer_back (negsuc n) h = absurd (false≢true h)
@@ -61,7 +61,7 @@ plain_spawn_back spawner (Some scene) name sets None some none texts sound bytes
     let c = and_parts (is_text name) (list_all is_text (prop_names sets)) b.1 in
     spawn_back spawner scene name sets a.0 b.0 c.0 (are_right sets c.1 sound bytes)
 
-op_back : (o : Op) → IsGiven o → list_all has_bytes (op_values o) ≡ true → op_read (op_data o) ≡ Ok o
+pub op_back : (o : Op) → IsGiven o → list_all has_bytes (op_values o) ≡ true → op_read (op_data o) ≡ Ok o
 op_back (op.Spawn s) given bytes = plain_spawn_back s.spawner s.scene s.name s.sets s.arg given.spawn.0 given.spawn.1 given.texts given.values bytes
 op_back (op.Set path prop v) given bytes =
     let a = and_parts (is_text path) (list_all is_text (prop ∷ [])) given.texts in

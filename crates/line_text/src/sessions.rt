@@ -28,7 +28,7 @@ pub enum SessionLine {
 
 /// The number of a peer, 1 to 2,147,483,647.
 #[tactic(auto, unfolding(crate::specs::Sessions::peer_read))]
-fn peer_of(value: &Value) -> Result<i32, LineStop>
+pub fn peer_of(value: &Value) -> Result<i32, LineStop>
     ensures gives { Gives (λ p. p) result (peer_read (view value.now)) }
     ensures peer { IfOk result (λ p. is_peer p ≡ true) }
 {
@@ -39,8 +39,9 @@ fn peer_of(value: &Value) -> Result<i32, LineStop>
     }
 }
 
+/// No items.
 #[tactic(auto, unfolding(crate::specs::Sessions::none_of))]
-fn none_of(items: &[Value]) -> Result<(), LineStop>
+pub fn none_of(items: &[Value]) -> Result<(), LineStop>
     ensures { Gives (λ x. x) result (none_of (items_view items.now)) }
 {
     match items {
@@ -49,8 +50,9 @@ fn none_of(items: &[Value]) -> Result<(), LineStop>
     }
 }
 
+/// One item and no more.
 #[tactic(auto, unfolding(crate::specs::Sessions::one_of))]
-fn one_of(items: &[Value]) -> Result<&Value, LineStop>
+pub fn one_of(items: &[Value]) -> Result<&Value, LineStop>
     ensures { Gives (λ x. view x.now) result (one_of (items_view items.now)) }
 {
     match items {

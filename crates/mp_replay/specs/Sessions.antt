@@ -24,7 +24,8 @@ use Rattle.line_text.specs.Sessions.{session_line_read}
 use Rattle.line_runs.specs.Output.{Command, EndsAs, Read, RunsTo, Telling, never_last, next_number, read_in, stops}
 use Rattle.line_runs.specs.Steps.{Takes}
 use Rattle.line_runs.specs.declared.taker.Behind.{Behind}
-use Rattle.packet_show.specs.Shown.{longest_line, most_judged, show_command}
+use Rattle.line_runs.specs.Limits.{longest_line, most_judged}
+use Rattle.packet_show.specs.Shown.{show_command}
 use Rattle.scene_model.specs.Valid.{IsValidScene}
 use Rattle.world_steps.specs.Scripts.{Happened, IsSettled}
 use Rattle.world_steps.specs.Steps.{Parts, scene_of}

@@ -4,7 +4,7 @@ ghost use Rattle.line_text.specs.Scenes.{scene_line_read};
 ghost use Rattle.line_runs.specs.Steps.{BeginsWith};
 ghost use Rattle.world_steps.specs.Sound.{has_sound_values, is_built_event};
 ghost use Rattle.line_text.specs.Held.{IsGivenLine};
-ghost use Rattle.mp_replay.specs.Ends.{AnyReason};
+ghost use Rattle.line_runs.specs.Ends.{AnyReason};
 ghost use Rattle.mp_replay.specs.KnownLaws.{known_of};
 ghost use Rattle.mp_replay.specs.Sessions.{Begins, HoldsIn, Known, Session as SessionOf, TakesEvent, Took, after_line, line_text as line_text_of, replay_command, report_text as report_text_of, with_event, world_of};
 ghost use Rattle.scene_model.specs.declared.world.WorldOutcome.TheVariants as answers;

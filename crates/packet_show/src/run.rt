@@ -2,19 +2,14 @@
 ghost use Rattle.std.specs.Prelude.{◌≡◌, List, ℕ, Some};
 ghost use Rattle.line_runs.specs.Ends.{MayEnd};
 ghost use Rattle.line_runs.specs.Output.{EndsAs, read_in};
-ghost use Rattle.packet_show.specs.Shown.{IsHex, NothingKnown, longest_line, most_judged, show_command};
+ghost use Rattle.line_runs.specs.Limits.{longest_line, most_judged};
+ghost use Rattle.packet_show.specs.Shown.{IsHex, NothingKnown, show_command};
 
 use crate::lines::line_text;
 use gd_variant::OutOfMemory;
-use line_runs::{Behind, LineTaker, run_lines};
+use line_runs::{Behind, LONGEST_LINE, LineTaker, MOST_JUDGED, run_lines};
 use program_edge::{LineStop, Sink, Source, Status};
 use std::alloc::Global;
-
-/// The most bytes of a line.
-const LONGEST_LINE: usize = 33_554_432;
-
-/// The most bytes of an input that are judged.
-const MOST_JUDGED: u32 = 1_073_741_824;
 
 /// Shows each line by itself.
 #[derive(Drop)]

@@ -18,7 +18,7 @@ use Rattle.serde_json.specs.Written.{number_text, outline, items_outline, member
 use Rattle.serde_json.proofs.Numbers.{number_of-decimal, number_of-negative}
 use Rattle.serde_json.proofs.Texts.{print-outline}
 use Rattle.line_text.specs.Lines.{found, line_data}
-use Rattle.scene_lines.specs.Texts.{FitsLine, put_all, IsPlain, ArePlain, HavePlain, ReadsTexts}
+use Rattle.line_laws.specs.Texts.{FitsLine, put_all, IsPlain, ArePlain, HavePlain, ReadsTexts}
 
 -- ---- what the outline stands for
 

@@ -1,5 +1,5 @@
 -- Values of JSON that are read of the text that is written of them.
-use Rattle.std.specs.Prelude.{◌≡◌, ◌<◌, ◌≤◌, ◌^◌, pos, negsuc, true, Ok, ⊤}
+use Rattle.std.specs.Prelude.{◌≡◌, ℕ, ◌<◌, ◌≤◌, ◌^◌, pos, negsuc, true, Ok, ⊤}
 use Rattle.std.specs.Str.{is_utf8}
 use Rattle.serde_json.specs.Data.{Num, unsigned, negative, float, Data, null, boolean, number, string, array, object, Items, no_items, item, Members, no_members, member, put, depth}
 use Rattle.serde_json.specs.Read.{max_depth}
@@ -39,6 +39,10 @@ abbrev mutual
   pub HavePlain : Members → Type 0
   HavePlain no_members = ⊤
   HavePlain (member k d ms) = (is_utf8 k ≡ true) × IsPlain d × HavePlain ms
+
+-- such a value, at most so deep
+abbrev pub IsReadable : ℕ → Data → Type 0
+IsReadable n d = IsPlain d × (depth d ≤ n)
 
 -- such a value, not too deep, is read of its text
 abbrev pub ReadsTexts : Type 0

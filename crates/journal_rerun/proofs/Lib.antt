@@ -1,0 +1,3 @@
+pub mod GivenOps
+pub mod Happened
+pub mod Stages
