@@ -206,7 +206,7 @@ def table_cases(path):
                     parts.append((name, want))
             else:
                 case = Case(name, "row", words, given, status, out, err)
-                case.program = settings.get("program", "godot_mp_cli")
+                case.program, case.is_long = settings.get("program", "godot_mp_cli"), "long" in settings
                 cases.append(case)
     return cases
 
@@ -336,4 +336,5 @@ def is_asked(case, word):
     return any(name == word or name.startswith((word + ".tsv", word + "/")) for name in names)
 
 
-sys.exit(main(sys.argv[1:]))
+if __name__ == "__main__":
+    sys.exit(main(sys.argv[1:]))

@@ -6,8 +6,10 @@ A peer's journal comes from the lines of the session and from what `replay` writ
 down at the peer, its operations, and the packets that were delivered to it. `rerun` must write for it what `replay`
 writes of that peer: each answer with the packets that it sent, and its report. Sessions that a line ends are taken
 as far as that line. The last line says how many journals there were."""
+import concurrent.futures
 import importlib.util
 import json
+import os
 import pathlib
 import subprocess
 import sys
@@ -118,50 +120,66 @@ def answers(lines, out):
         yield line, told[start], told[start + 1 : at]
 
 
-def check(program, name, data):
-    """How many journals the session gives, and which of them differ."""
+def played(program, data):
+    """The lines of a session up to the first wrong one, and the session that they make; None of one without a line."""
     status, out, err = run(program, "replay", data)
     lines = data.split(b"\n")
     if lines[-1] == b"":
         lines.pop()
     if status == 3:
-        number = int(err.split(b":")[0].split()[1])
-        lines = lines[: number - 1]
+        lines = lines[: int(err.split(b":")[0].split()[1]) - 1]
     elif status != 0:
-        return 0, []
+        lines = []
     if not lines:
-        return 0, []
+        return lines, None
     session = Session()
     for line, head, told in answers(lines, out):
         session.take(line, head, told)
+    return lines, session
+
+
+def report(program, lines, number):
+    """The report of a peer behind all lines of a session."""
+    whole = b"".join(line + b"\n" for line in lines)
+    _, out, _ = run(program, "replay", whole + compact(["report", number]))
+    told = out.splitlines(keepends=True)
+    first = max(place for place, line in enumerate(told) if line.startswith(b"[%d," % (len(lines) + 1)))
+    return told[first + 1 :]
+
+
+def rerun(program, lines, peer):
+    """What `rerun` writes for the journal of a peer, and how it ends."""
+    journal = lines[0] + b"\n" + b"".join(peer.entries) + b'["end"]\nbehind the end nothing is judged'
+    status, out, err = run(program, "rerun", journal)
+    return out.splitlines(keepends=True), status, err
+
+
+def check(program, name, data):
+    """How many journals the session gives, and which of them differ."""
+    lines, session = played(program, data)
+    if session is None:
+        return 0, []
     wrong = []
-    for number in sorted(session.peers):
-        peer = session.peers[number]
-        report = []
+    for number, peer in sorted(session.peers.items()):
+        got, status, err = rerun(program, lines, peer)
+        wanted = peer.wanted
         if number in session.up:
-            whole = b"".join(line + b"\n" for line in lines)
-            status, out, _ = run(program, "replay", whole + compact(["report", number]))
-            told = out.splitlines(keepends=True)
-            first = max(place for place, line in enumerate(told) if line.startswith(b"[%d," % (len(lines) + 1)))
-            assert status == 0, name
-            report = told[first + 1 :]
-        journal = lines[0] + b"\n" + b"".join(peer.entries) + b'["end"]\nbehind the end nothing is judged'
-        status, out, err = run(program, "rerun", journal)
-        got = out.splitlines(keepends=True)
-        if number not in session.up:
-            got = got[: len(peer.wanted)]
-        if status != 0 or err or got != peer.wanted + report:
-            print(f"{name}: the journal of peer {number} ends with {status}, {err!r}:", cases.difference(b"".join(peer.wanted + report), b"".join(got)))
+            wanted = wanted + report(program, lines, number)
+        else:
+            # of a client that went the session has no report
+            got = got[: len(wanted)]
+        if status != 0 or err or got != wanted:
+            print(f"{name}: the journal of peer {number} ends with {status}, {err!r}:", cases.difference(b"".join(wanted), b"".join(got)))
             wrong.append(number)
     return len(session.peers), wrong
 
 
 def main(program):
     journals, wrong = 0, 0
-    for name, data in sessions():
-        count, differ = check(program, name, data)
-        journals += count
-        wrong += len(differ)
+    with concurrent.futures.ThreadPoolExecutor(os.cpu_count()) as pool:
+        for count, differ in pool.map(lambda session: check(program, *session), sessions()):
+            journals += count
+            wrong += len(differ)
     print(f"{journals} journals, {wrong} that give something else than their session")
     return 1 if wrong or not journals else 0
 

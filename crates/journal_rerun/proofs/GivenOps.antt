@@ -1,14 +1,18 @@
--- An operation of a line has sound values, as the peer asks for them.
-use Rattle.std.proofs.Common.{◌≡◌, true, List, [], ◌∷◌, ◌++◌, refl, sym, ◌∙◌}
+-- What a line holds, as the peer asks for it: sound values of operations, numbers of peers.
+use Rattle.std.proofs.Common.{◌≡◌, arith, to_z-of_z, true, List, [], ◌∷◌, ◌++◌, refl, sym, ◌∙◌}
+use Rattle.std.specs.Prelude.{ℤ, pos, negsuc, nat_le}
+use Rattle.std.specs.Int.{w32}
+use Rattle.std.specs.Int.RustNames.{FitsSigned}
 use Rattle.std.specs.List.{list_all}
-use Rattle.std.proofs.lemmas.Bool.{and_from, and_parts}
+use Rattle.std.proofs.lemmas.Bool.{and_from, and_parts, false≢true, leb-true}
+use mir.Val.{to_z, of_z}
 use Rattle.std.proofs.lemmas.List.Folds.{list_all-append}
 use Rattle.gd_variant.specs.Sound.{is_sound}
 use Rattle.scene_model.specs.declared.scene.Prop.{Prop}
 use Rattle.scene_model.specs.declared.event.SpawnOp.{SpawnOp}
 use Rattle.scene_model.specs.declared.event.Op.{Op}
 use Rattle.scene_model.specs.declared.event.Op.TheVariants.{Spawn, Custom, Despawn, Set, Public, For, Filter, Call, Raw, Frame}
-use Rattle.line_text.specs.Held.{held, prop_values, IsGiven}
+use Rattle.line_text.specs.Held.{held, is_peer, prop_values, IsGiven}
 use Rattle.peer_steps.specs.Sound.{is_sound_op}
 
 settings_are_sound : (ps : List Prop) → list_all is_sound (prop_values ps) ≡ true → list_all (λ (p : Prop). is_sound p.value) ps ≡ true
@@ -31,3 +35,11 @@ op_is_sound (Filter path k peers) g = refl
 op_is_sound (Call c) g = refl
 op_is_sound (Raw to class bytes) g = refl
 op_is_sound Frame g = refl
+
+peer_fits : (p : ℤ) → is_peer p ≡ true → FitsSigned w32 p
+peer_fits (pos n) h = omega (arith, leb-true n 2147483647 (and_parts (nat_le 1 n) (nat_le n 2147483647) h).1)
+peer_fits (negsuc n) h = absurd (false≢true h)
+
+-- the number of a peer that is passed on by value
+pub same_peer : (p : ℤ) → is_peer p ≡ true → to_z w32 (of_z w32 p) ≡ p
+same_peer p h = to_z-of_z (peer_fits p h)

@@ -31,24 +31,21 @@ not_unbuilt true o h = refl
 not_unbuilt false o h = absurd (cc)
 
 -- what an event gives, by the answer of the peer that took it
-given_is : (n : ℕ) (who : Who) (es : List Event) (e : Event) (o : Outcome) (k now : Kept) → HoldsIn who es k → o ≡ built_answer packet_form k.who es e → now.who ≡ k.who → answer_given n who.id (built_answer packet_form who es e) ≡ answer_given n now.who.id o
-given_is n who es e o k now holds is same =
-    sym (ap (λ (w : Who). answer_given n w.id o) (same ∙ holds.same) ∙ ap (answer_given n who.id) (is ∙ ap (λ w. built_answer packet_form w es e) holds.same))
+given_is : (n : ℕ) (who : Who) (es : List Event) (e : Event) (o : Outcome) (k now : Kept) (p : ℤ) → HoldsIn who es k → o ≡ built_answer packet_form k.who es e → now.who ≡ k.who → p ≡ now.who.id → answer_given n who.id (built_answer packet_form who es e) ≡ answer_given n p o
+given_is n who es e o k now p holds is same id =
+    sym (ap (λ q. answer_given n q o) (id ∙ ap (λ (w : Who). w.id) (same ∙ holds.same)) ∙ ap (answer_given n who.id) (is ∙ ap (λ w. built_answer packet_form w es e) holds.same))
 
 -- a peer took an event, and what it answered was added
-pub happened : (n : ℕ) (who : Who) (es : List Event) (e : Event) (o : Outcome) (k now : Kept) (old : List ℕ) (r : Result Behind LineStop) (new : List ℕ) → HoldsIn who es k → o ≡ built_answer packet_form k.who es e → (is_answered packet_form k.who es e ≡ true → StandsFor packet_form now (e ∷ es)) → now.who ≡ k.who → Takes (answer_given n now.who.id o) false old r new (Unit {0}) → TakesHappening n who es e old r new now
-happened n who es e o k now old (Ok following.End) new holds is stands same takes = absurd (false≢true takes.0)
-happened n who es e o k now old (Err stop.OutOfMemory) new holds is stands same takes = tt
-happened n who es e o k now old (Err (stop.LineBad w)) new holds is stands same takes = given_is n who es e o k now holds is same ∙ takes
-happened n who es e o k now old (Ok following.Lines) new holds is stands same takes = (
-  refl,
-  record {
-    text = takes.1.text;
-    gives = given_is n who es e o k now holds is same ∙ takes.1.gives;
-    put = takes.1.put;
-    took = record {
-      same = same ∙ holds.same;
-      stands = stands (not_unbuilt (is_answered packet_form k.who es e) (answer packet_form k.who es e) (ap is_not_built (sym is) ∙ given_built n now.who.id o (is_not_built o) takes.1.text refl takes.1.gives));
-    };
-  },
-)
+pub happened : (n : ℕ) (who : Who) (es : List Event) (e : Event) (o : Outcome) (k now : Kept) (p : ℤ) (old : List ℕ) (r : Result Behind LineStop) (new : List ℕ) → HoldsIn who es k → o ≡ built_answer packet_form k.who es e → (is_answered packet_form k.who es e ≡ true → StandsFor packet_form now (e ∷ es)) → now.who ≡ k.who → p ≡ now.who.id → Takes (answer_given n p o) false old r new (Unit {0}) → TakesHappening n who es e old r new now
+happened n who es e o k now p old (Ok following.End) new holds is stands same id takes = absurd (false≢true takes.0)
+happened n who es e o k now p old (Err stop.OutOfMemory) new holds is stands same id takes = tt
+happened n who es e o k now p old (Err (stop.LineBad w)) new holds is stands same id takes = given_is n who es e o k now p holds is same id ∙ takes
+happened n who es e o k now p old (Ok following.Lines) new holds is stands same id takes = (refl, record {
+  text = takes.1.text;
+  gives = given_is n who es e o k now p holds is same id ∙ takes.1.gives;
+  put = takes.1.put;
+  took = record {
+    same = same ∙ holds.same;
+    stands = stands (not_unbuilt (is_answered packet_form k.who es e) (answer packet_form k.who es e) (ap is_not_built (sym is) ∙ given_built n p o (is_not_built o) takes.1.text refl takes.1.gives));
+  };
+})
