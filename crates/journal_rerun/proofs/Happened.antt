@@ -40,12 +40,15 @@ pub happened : (n : ℕ) (who : Who) (es : List Event) (e : Event) (o : Outcome)
 happened n who es e o k now p old (Ok following.End) new holds is stands same id takes = absurd (false≢true takes.0)
 happened n who es e o k now p old (Err stop.OutOfMemory) new holds is stands same id takes = tt
 happened n who es e o k now p old (Err (stop.LineBad w)) new holds is stands same id takes = given_is n who es e o k now p holds is same id ∙ takes
-happened n who es e o k now p old (Ok following.Lines) new holds is stands same id takes = (refl, record {
-  text = takes.1.text;
-  gives = given_is n who es e o k now p holds is same id ∙ takes.1.gives;
-  put = takes.1.put;
-  took = record {
-    same = same ∙ holds.same;
-    stands = stands (not_unbuilt (is_answered packet_form k.who es e) (answer packet_form k.who es e) (ap is_not_built (sym is) ∙ given_built n p o (is_not_built o) takes.1.text refl takes.1.gives));
-  };
-})
+happened n who es e o k now p old (Ok following.Lines) new holds is stands same id takes = (
+  refl,
+  record {
+    text = takes.1.text;
+    gives = given_is n who es e o k now p holds is same id ∙ takes.1.gives;
+    put = takes.1.put;
+    took = record {
+      same = same ∙ holds.same;
+      stands = stands (not_unbuilt (is_answered packet_form k.who es e) (answer packet_form k.who es e) (ap is_not_built (sym is) ∙ given_built n p o (is_not_built o) takes.1.text refl takes.1.gives));
+    };
+  },
+)

@@ -192,12 +192,7 @@ impl LineTaker for Rerunner {
         }
     }
 
-    fn close(
-        &mut self,
-        alloc: Global,
-        _n: u64,
-        text: &mut Vec<u8>,
-    ) -> Result<Status, OutOfMemory> {
+    fn close(&mut self, alloc: Global, _n: u64, text: &mut Vec<u8>) -> Result<Status, OutOfMemory> {
         match &self.stage {
             Stage::Running(peer) => {
                 close_peer(alloc, peer, text)?;
@@ -233,12 +228,5 @@ pub fn rerun<S: Source, K: Sink>(alloc: Global, source: &mut S, sink: &mut K) ->
     ensures output { Reruns (S.left source.old) (K.held sink.old) result (K.held sink.new) }
 {
     let mut journal = Rerunner::new();
-    run_lines(
-        alloc,
-        LONGEST_LINE,
-        MOST_JUDGED,
-        &mut journal,
-        source,
-        sink,
-    )
+    run_lines(alloc, LONGEST_LINE, MOST_JUDGED, &mut journal, source, sink)
 }
