@@ -1,5 +1,5 @@
 -- What a line holds, as the peer asks for it: sound values of operations, numbers of peers.
-use Rattle.std.proofs.Common.{◌≡◌, arith, to_z-of_z, true, List, [], ◌∷◌, ◌++◌, refl, sym, ◌∙◌}
+use Rattle.std.proofs.Common.{◌≡◌, arith, to_z-of_z, true, Option, Some, None, List, [], ◌∷◌, ◌++◌, refl, sym, ◌∙◌}
 use Rattle.std.specs.Prelude.{ℤ, pos, negsuc, nat_le}
 use Rattle.std.specs.Int.{w32}
 use Rattle.std.specs.Int.RustNames.{FitsSigned}
@@ -8,11 +8,13 @@ use Rattle.std.proofs.lemmas.Bool.{and_from, and_parts, false≢true, leb-true}
 use mir.Val.{to_z, of_z}
 use Rattle.std.proofs.lemmas.List.Folds.{list_all-append}
 use Rattle.gd_variant.specs.Sound.{is_sound}
+use Rattle.gd_variant.specs.declared.value.Variant.{Variant}
 use Rattle.scene_model.specs.declared.scene.Prop.{Prop}
 use Rattle.scene_model.specs.declared.event.SpawnOp.{SpawnOp}
 use Rattle.scene_model.specs.declared.event.Op.{Op}
 use Rattle.scene_model.specs.declared.event.Op.TheVariants.{Spawn, Custom, Despawn, Set, Public, For, Filter, Call, Raw, Frame}
 use Rattle.line_text.specs.Held.{held, is_peer, prop_values, IsGiven}
+use Rattle.peer_steps.specs.Arguments.{is_sound_argument}
 use Rattle.peer_steps.specs.Sound.{is_sound_op}
 
 settings_are_sound : (ps : List Prop) → list_all is_sound (prop_values ps) ≡ true → list_all (λ (p : Prop). is_sound p.value) ps ≡ true
@@ -24,9 +26,16 @@ settings_are_sound (p ∷ ps) h =
 spawn_is_sound : (o : SpawnOp) → list_all is_sound (held o.arg ++ prop_values o.sets) ≡ true → list_all (λ (p : Prop). is_sound p.value) o.sets ≡ true
 spawn_is_sound o values = settings_are_sound o.sets (and_parts (list_all is_sound (held o.arg)) (list_all is_sound (prop_values o.sets)) (sym (list_all-append is_sound (held o.arg) (prop_values o.sets)) ∙ values)).1
 
+argument_is_sound : (arg : Option Variant) → list_all is_sound (held arg) ≡ true → is_sound_argument arg ≡ true
+argument_is_sound None h = refl
+argument_is_sound (Some v) h = (and_parts (is_sound v) true h).0
+
+custom_is_sound : (o : SpawnOp) → list_all is_sound (held o.arg ++ prop_values o.sets) ≡ true → is_sound_argument o.arg ≡ true
+custom_is_sound o values = argument_is_sound o.arg (and_parts (list_all is_sound (held o.arg)) (list_all is_sound (prop_values o.sets)) (sym (list_all-append is_sound (held o.arg) (prop_values o.sets)) ∙ values)).0
+
 pub op_is_sound : (o : Op) → IsGiven o → is_sound_op o ≡ true
 op_is_sound (Spawn o) g = spawn_is_sound o g.values
-op_is_sound (Custom o) g = refl
+op_is_sound (Custom o) g = custom_is_sound o g.values
 op_is_sound (Despawn path) g = refl
 op_is_sound (Set path prop value) g = (and_parts (is_sound value) true g.values).0
 op_is_sound (Public path k on) g = refl
