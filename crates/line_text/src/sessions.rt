@@ -1,11 +1,9 @@
 //! The lines of a session.
-ghost use Rattle.std.specs.Prelude.{◌≡◌, IfOk, true};
-ghost use Rattle.std.specs.List.{list_all};
+ghost use Rattle.std.specs.Prelude.{◌≡◌, IfOk};
 ghost use Rattle.serde_json.specs.View.{view, items_view};
 ghost use Rattle.gd_variant.specs.Words.{has_text};
-ghost use Rattle.gd_variant.specs.Sound.{is_text, is_sound};
 ghost use Rattle.line_text.specs.Reading.{Gives};
-ghost use Rattle.line_text.specs.Held.{HasPlainSpawn, IsGivenLine, is_built, is_peer, line_peers, line_texts, line_values};
+ghost use Rattle.line_text.specs.Held.{IsGivenLine};
 ghost use Rattle.line_text.specs.WrittenLines.{ReadsSessions};
 ghost use Rattle.line_text.specs.Sessions.{at_peer_read, connect_read, down_read, later_lines, line_by, line_read, rel_read, report_read, session_line_read};
 
@@ -120,11 +118,7 @@ fn line_of(alloc: Global, value: &Value) -> Result<SessionLine, LineStop>
 #[tactic(auto, unfolding(crate::specs::Sessions::session_line_read))]
 pub fn read_event(alloc: Global, line: &[u8]) -> Result<SessionLine, LineStop>
     ensures exact { Gives (λ x. x) result (session_line_read line.now) }
-    ensures built { IfOk result (λ x. is_built x ≡ true) }
-    ensures texts { IfOk result (λ x. list_all is_text (line_texts x) ≡ true) }
-    ensures values { IfOk result (λ x. list_all is_sound (line_values x) ≡ true) }
-    ensures spawns { IfOk result HasPlainSpawn }
-    ensures peers { IfOk result (λ x. list_all is_peer (line_peers x) ≡ true) }
+    ensures given { IfOk result IsGivenLine }
 {
     let value = data_of(alloc, line)?;
     line_of(alloc, &value)

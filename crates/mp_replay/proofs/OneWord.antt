@@ -12,10 +12,10 @@ same_length a b (w ∷ []) h k = sym (ap length (text_eq-true (string_bytes w) a
 same_length a b (w ∷ x ∷ ws) h k = absurd (cc)
 
 pub replay_or_show : (ws : List (String Global)) → is_replay ws ≡ true → is_show ws ≡ true → ⊥
-replay_or_show ws h k = let e : 6 ≡ 4 = same_length (codes "replay") (codes "show") ws h k in cc
+replay_or_show ws h k = omega (arith, same_length (codes "replay") (codes "show") ws h k)
 
 pub replay_or_rerun : (ws : List (String Global)) → is_replay ws ≡ true → is_rerun ws ≡ true → ⊥
-replay_or_rerun ws h k = let e : 6 ≡ 5 = same_length (codes "replay") (codes "rerun") ws h k in cc
+replay_or_rerun ws h k = omega (arith, same_length (codes "replay") (codes "rerun") ws h k)
 
 pub rerun_or_show : (ws : List (String Global)) → is_rerun ws ≡ true → is_show ws ≡ true → ⊥
-rerun_or_show ws h k = let e : 5 ≡ 4 = same_length (codes "rerun") (codes "show") ws h k in cc
+rerun_or_show ws h k = omega (arith, same_length (codes "rerun") (codes "show") ws h k)
