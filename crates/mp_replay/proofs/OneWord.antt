@@ -1,5 +1,5 @@
 -- The words are those of one command.
-use Rattle.std.proofs.Common.{◌≡◌, ℕ, true, List, [], ◌∷◌, length, ap, sym, ◌∙◌}
+use Rattle.std.proofs.Common.{◌≡◌, arith, ℕ, true, List, [], ◌∷◌, length, ap, sym, ◌∙◌}
 use Rattle.std.specs.Prelude.{String, string_bytes, codes}
 use Rattle.std.specs.declared.alloc.Global.{Global}
 use Rattle.mp_replay.specs.Ends.{is_replay, is_rerun, is_show, is_the_word}

@@ -3,4 +3,10 @@ use Rattle.mp_replay.proofs.OneWord.{replay_or_rerun, replay_or_show, rerun_or_s
 use Rattle.mp_replay.proofs.commands.run.Goals as goal
 
 pub returns-then-is_show-clause-output : goal.returns-then-is_show-clause-output
-returns-then-is_show-clause-output g c = λ replay input held left put. absurd (replay_or_show c.args.words.now replay (sym c.is_show.ensures ∙ c.if-is_show.true))
+returns-then-is_show-clause-output g c = λ replay. absurd (replay_or_show c.args.words.now replay (sym c.is_show.ensures ∙ c.if-is_show.true))
+
+pub returns-then-is_show-clause-rerun_output : goal.returns-then-is_show-clause-rerun_output
+returns-then-is_show-clause-rerun_output g c = λ rerun. absurd (rerun_or_show c.args.words.now rerun (sym c.is_show.ensures ∙ c.if-is_show.true))
+
+pub returns-then-is_rerun-clause-output : goal.returns-then-is_rerun-clause-output
+returns-then-is_rerun-clause-output g c = λ replay. absurd (replay_or_rerun c.args.words.now replay (sym c.is_rerun.ensures ∙ c.if-is_rerun.true))
