@@ -4,6 +4,7 @@ pub mod Keeping
 pub mod Exact
 pub mod Order
 pub mod Search
+pub mod Apart
 pub mod Changes
 pub mod Spots
 pub mod Paths

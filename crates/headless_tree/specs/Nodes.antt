@@ -1,5 +1,5 @@
 -- The tree of nodes: which nodes stand in it, and what each call makes of them.
-use Rattle.std.specs.Prelude.{◌≡◌, ℕ, ℤ, Bool, true, not, ◌&&◌, ◌||◌, cond, List, [], ◌∷◌, map, filter, length, MatchResult, Option, Some, None, option_and_then, is_none, is_some, nat_le, nat_lt, int_lt, slice_get, position, Result}
+use Rattle.std.specs.Prelude.{◌≡◌, ℕ, ℤ, Bool, true, not, ◌&&◌, ◌||◌, cond, List, [], ◌∷◌, map, filter, length, MatchResult, Option, Some, None, option_and_then, is_none, is_some, nat_eq, nat_le, nat_lt, int_lt, slice_get, position, Result}
 use Rattle.std.specs.Ordering.{int_eq}
 use Rattle.gd_variant.specs.Words.{text_eq, some_is, when, first_of, put_by}
 use Rattle.gd_variant.specs.declared.value.Variant.{Variant}
@@ -133,6 +133,10 @@ is_row_of auth n = is_spawned n && int_eq n.auth auth
 -- the nodes without the spawned ones of an authority
 abbrev pub without_rows : ℤ → List Live → List Live
 without_rows auth nodes = filter (λ (n : Live). not (is_row_of auth n)) nodes
+
+-- whether a node is the spawned one of an authority with this number of its own
+abbrev pub is_row_with : ℤ → ℕ → Live → Bool
+is_row_with auth num n = is_row_of auth n && nat_eq n.num num
 
 -- a call is refused with this reason, or for want of memory
 abbrev pub IsRefused : Option TreeNo → TreeNo → Type 0

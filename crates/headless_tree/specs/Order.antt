@@ -1,5 +1,5 @@
 -- The order of nodes: fixed ones first, then spawned ones by authority and number.
-use Rattle.std.specs.Prelude.{ℤ, Bool, true, not, ◌&&◌, ◌||◌, List, [], ◌∷◌, int_lt, nat_lt}
+use Rattle.std.specs.Prelude.{ℕ, ℤ, Bool, true, not, ◌&&◌, ◌||◌, List, [], ◌∷◌, int_lt, nat_lt}
 use Rattle.std.specs.List.{list_all}
 use Rattle.std.specs.Ordering.{int_eq}
 use Rattle.scene_model.specs.Nodes.{Live}
@@ -25,3 +25,7 @@ is_ahead_of auth n = not (is_spawned n) || int_lt n.auth auth
 -- whether a node stands ahead of the spawned ones of later authorities
 abbrev pub is_ahead_of_later : ℤ → Live → Bool
 is_ahead_of_later auth n = not (is_spawned n) || not (int_lt auth n.auth)
+
+-- whether a node stands before the place of a number of an authority
+abbrev pub is_before_row : ℤ → ℕ → Live → Bool
+is_before_row auth num n = (not (is_spawned n) || int_lt n.auth auth) || (int_eq n.auth auth && nat_lt n.num num)

@@ -1,6 +1,6 @@
 //! The tree.
-ghost use Rattle.std.specs.Prelude.{◌≡◌, ◌+◌, ◌<◌, ◌≤◌, filter, IfOk, IfSome, MatchResult, Some, None, true, length, map, position, option_map, slice_get, remove, is_some};
-ghost use Rattle.std.specs.List.{list_all, prefix_len, remove_range};
+ghost use Rattle.std.specs.Prelude.{◌≡◌, ◌+◌, ◌<◌, ◌≤◌, not, filter, IfOk, IfSome, MatchResult, Some, None, true, length, map, position, option_map, slice_get, remove, is_some};
+ghost use Rattle.std.specs.List.{list_all, list_any, prefix_len, remove_range};
 ghost use Rattle.std.specs.Option.{option_copied};
 ghost use Rattle.gd_variant.specs.Words.{text_eq, some_is};
 ghost use Rattle.scene_model.specs.declared.scene.Node.{Node as SceneNode};
@@ -9,8 +9,8 @@ ghost use Rattle.scene_model.specs.Valid.{IsValidScene};
 ghost use Rattle.scene_model.specs.Nodes.{Live, live_at, fixed_live, row_of as row_seen};
 ghost use Rattle.headless_tree.specs.declared.node.NodeNow.{NodeNow as NodeOf};
 ghost use Rattle.headless_tree.specs.Numbers.{has_number, is_new as is_new_in, are_new as are_new_in};
-ghost use Rattle.headless_tree.specs.Order.{are_in_order, is_ahead_of, is_ahead_of_later};
-ghost use Rattle.headless_tree.specs.Nodes.{live, KeepsFixed, HasFixed, is_at, value_at, fixed_nodes, assign_no, assigned, assign_at_no, assigned_at, is_row_of as is_row, is_spawned as is_spawned_in, has_spawned as has_spawned_in, without_spawned, without_rows, Assigns, FindsSpot};
+ghost use Rattle.headless_tree.specs.Order.{are_in_order, is_ahead_of, is_ahead_of_later, is_before_row};
+ghost use Rattle.headless_tree.specs.Nodes.{live, KeepsFixed, HasFixed, is_at, value_at, fixed_nodes, assign_no, assigned, assign_at_no, assigned_at, is_row_of as is_row, is_row_with, is_spawned as is_spawned_in, has_spawned as has_spawned_in, without_spawned, without_rows, Assigns, FindsSpot};
 
 mod making;
 mod paths;
@@ -317,6 +317,38 @@ impl Tree {
         self.count_rows(&auth)
     }
 
+    fn place_with(&self, auth: &i32, num: u32) -> Option<usize>
+        ensures { result ≡ position (is_row_with auth.now num) self.now.nodes }
+    {
+        let place = count_before_row(self.nodes.as_slice(), auth, num);
+        match item_at(self.nodes.as_slice(), place) {
+            Some(node) => {
+                if is_row_with_num(node, auth, num) {
+                    Some(place)
+                } else {
+                    None
+                }
+            }
+            None => None,
+        }
+    }
+
+    /// Removes the spawned node of an authority with this number, and tells whether there was one
+    /// (this project's own call). An id of a synchronizer is no such number.
+    pub fn remove_row(&mut self, auth: &i32, num: u32) -> bool
+        ensures answer { result ≡ list_any (is_row_with auth.now num) self.old.nodes }
+        ensures nodes { self.new ≡ record self.old { nodes = filter (λ (n : Live). not (is_row_with auth.now num n)) self.old.nodes } }
+    {
+        self.holds();
+        match self.place_with(auth, num) {
+            Some(place) => {
+                self.remove_at(place);
+                true
+            }
+            None => false,
+        }
+    }
+
     /// Removes every spawned node of an authority.
     pub fn remove_under(&mut self, auth: i32)
         ensures { self.new ≡ record self.old { nodes = without_rows auth self.old.nodes } }
@@ -351,6 +383,29 @@ fn count_ahead_of_later(nodes: &[NodeNow], auth: &i32) -> usize
     ensures within { result ≤ length nodes.now }
 {
     nodes.partition_point(|node| is_ahead_of_others(node, auth))
+}
+
+/// Whether a node is a fixed one, or a spawned one of an earlier authority, or of this one with a
+/// lower number.
+fn is_before(node: &NodeNow, auth: &i32, num: u32) -> bool
+    ensures { result ≡ is_before_row auth.now num (live node.now) }
+{
+    !is_spawned(node) || node.auth < *auth || (node.auth == *auth && node.num < num)
+}
+
+/// How many nodes stand before the place of a number of an authority, by a binary search.
+fn count_before_row(nodes: &[NodeNow], auth: &i32, num: u32) -> usize
+    requires order { are_in_order (map live nodes.now) ≡ true }
+    ensures count { result ≡ prefix_len (λ (n : NodeOf). is_before_row auth.now num (live n)) nodes.now }
+    ensures within { result ≤ length nodes.now }
+{
+    nodes.partition_point(|node| is_before(node, auth, num))
+}
+
+fn is_row_with_num(node: &NodeNow, auth: &i32, num: u32) -> bool
+    ensures { result ≡ is_row_with auth.now num (live node.now) }
+{
+    is_row_of(node, auth) && node.num == num
 }
 
 fn row_of(alloc: Global, node: &NodeNow) -> Result<Row, OutOfMemory>

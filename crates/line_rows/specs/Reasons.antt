@@ -58,11 +58,31 @@ UnknownOperation = session_line_read (codes "[\"op\",1,[\"jump\"]]") ≡ Err Nam
 
 -- a word that isn't built, whatever stands behind it
 abbrev pub WordNotBuilt : Type 0
-WordNotBuilt = session_line_read (codes "[\"down\"]") ≡ Err NotBuilt
+WordNotBuilt = session_line_read (codes "[\"loose\"]") ≡ Err NotBuilt
 
 -- and one of an operation
 abbrev pub OperationNotBuilt : Type 0
-OperationNotBuilt = session_line_read (codes "[\"op\",1,[\"custom\",0]]") ≡ Err NotBuilt
+OperationNotBuilt = session_line_read (codes "[\"op\",1,[\"call\",0]]") ≡ Err NotBuilt
+
+-- a client of no number
+abbrev pub DownOfNoNumber : Type 0
+DownOfNoNumber = session_line_read (codes "[\"down\",0]") ≡ Err Range
+
+-- the length of a custom spawn before its name
+abbrev pub CustomOfTwo : Type 0
+CustomOfTwo = session_line_read (codes "[\"op\",1,[\"custom\",\"s\",0]]") ≡ Err Shape
+
+-- the place of a synchronizer before what is set there
+abbrev pub PlaceBeforeSetting : Type 0
+PlaceBeforeSetting = session_line_read (codes "[\"op\",1,[\"public\",[\"s\",-1],0]]") ≡ Err Range
+
+-- the peer for whom a synchronizer is set before whether it is
+abbrev pub PeerBeforeSetting : Type 0
+PeerBeforeSetting = session_line_read (codes "[\"op\",1,[\"for\",[\"s\",0],0,2]]") ≡ Err Range
+
+-- each peer of a filter
+abbrev pub FilterOfNoNumber : Type 0
+FilterOfNoNumber = session_line_read (codes "[\"op\",1,[\"filter\",[\"s\",0],[2,2147483648]]]") ≡ Err Range
 
 -- a peer below 1
 abbrev pub PeerOfNoNumber : Type 0

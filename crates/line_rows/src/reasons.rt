@@ -1,5 +1,5 @@
 //! Wrong lines, each with the reason that comes first.
-ghost use Rattle.line_rows.specs.Reasons.{NoJson, NoLine, NoArray, NoFirstItem, NoWord, UnknownWord, WordBeforeLength, LengthOfALine, LengthBeforeItems, FirstItemFirst, SecondItemSecond, PeerBeforeOperation, UnknownOperation, WordNotBuilt, OperationNotBuilt, PeerOfNoNumber, ZeroInAWord, ZeroInAText, ZeroInDigits, ValueReadWhole, ValueJudgedByItself, TwoKnownKeys, OneUnknownKey, UnknownKeyFirst, MissingKey, KeysInTheirOrder, SpawnerAndSynchronizer, MethodsBeforeKinds, NullIsNoDefault, ReadBeforeValid};
+ghost use Rattle.line_rows.specs.Reasons.{NoJson, NoLine, NoArray, NoFirstItem, NoWord, UnknownWord, WordBeforeLength, LengthOfALine, LengthBeforeItems, FirstItemFirst, SecondItemSecond, PeerBeforeOperation, UnknownOperation, WordNotBuilt, OperationNotBuilt, DownOfNoNumber, CustomOfTwo, PlaceBeforeSetting, PeerBeforeSetting, FilterOfNoNumber, PeerOfNoNumber, ZeroInAWord, ZeroInAText, ZeroInDigits, ValueReadWhole, ValueJudgedByItself, TwoKnownKeys, OneUnknownKey, UnknownKeyFirst, MissingKey, KeysInTheirOrder, SpawnerAndSynchronizer, MethodsBeforeKinds, NullIsNoDefault, ReadBeforeValid};
 
 pub fn no_json()
     ensures { NoJson }
@@ -59,6 +59,26 @@ pub fn word_not_built()
 
 pub fn operation_not_built()
     ensures { OperationNotBuilt }
+{}
+
+pub fn down_of_no_number()
+    ensures { DownOfNoNumber }
+{}
+
+pub fn custom_of_two()
+    ensures { CustomOfTwo }
+{}
+
+pub fn place_before_setting()
+    ensures { PlaceBeforeSetting }
+{}
+
+pub fn peer_before_setting()
+    ensures { PeerBeforeSetting }
+{}
+
+pub fn filter_of_no_number()
+    ensures { FilterOfNoNumber }
 {}
 
 pub fn peer_of_no_number()

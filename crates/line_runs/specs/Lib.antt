@@ -1,4 +1,5 @@
 pub mod Judged
+pub mod Limits
 pub mod Output
 pub mod Ends
 pub mod Steps

@@ -2,8 +2,10 @@
 //! written before a read that may wait for more.
 #![tactic(auto)]
 
+mod limits;
 mod run;
 mod taker;
 
+pub use limits::{LONGEST_LINE, MOST_JUDGED};
 pub use run::run_lines;
 pub use taker::{Behind, LineTaker};

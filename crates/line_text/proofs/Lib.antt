@@ -8,4 +8,5 @@ pub mod Pushed
 pub mod ReadBack
 pub mod SessionsBack
 pub mod Shapes
+pub mod SoundScenes
 pub mod Steps

@@ -39,7 +39,7 @@ unfolding i64_read
 long_back (pos n) h = rw h refl
 long_back (negsuc n) h = refl
 
-short_long : (z : ℤ) → is_short z ≡ true → is_long z ≡ true
+pub short_long : (z : ℤ) → is_short z ≡ true → is_long z ≡ true
 short_long (pos n) h = lt-ltb _ _ (omega (arith, ltb-true n (2 ^ 31) h))
 short_long (negsuc n) h = lt-ltb _ _ (omega (arith, ltb-true n (2 ^ 31) h))
 
@@ -52,11 +52,11 @@ are_bytes-IsBytes [] h i = omega arith
 are_bytes-IsBytes (b ∷ bs) h zero = let p = and_parts (nat_lt b 256) (are_bytes bs) h in ltb-true b 256 p.0
 are_bytes-IsBytes (b ∷ bs) h (suc i) = let p = and_parts (nat_lt b 256) (are_bytes bs) h in are_bytes-IsBytes bs p.1 i
 
-bytes_back : (bs : List ℕ) → are_bytes bs ≡ true → bytes_read (hex_of bs) ≡ Ok bs
+pub bytes_back : (bs : List ℕ) → are_bytes bs ≡ true → bytes_read (hex_of bs) ≡ Ok bs
 unfolding bytes_read word_read
 bytes_back bs h = ap decoded (decode_of-encode_lower bs (are_bytes-IsBytes bs h))
 
-nat_back : (n : ℕ) → n ≤ 255 → nat_read 0 255 (nat_of n) ≡ Ok n
+pub nat_back : (n : ℕ) → n ≤ 255 → nat_read 0 255 (nat_of n) ≡ Ok n
 unfolding nat_read
 nat_back n h = let e : leb n 255 ≡ true = le-leb n 255 h in let f : leb 0 n ≡ true = le-leb 0 n (omega arith) in rw (e, f) refl
 
@@ -77,7 +77,7 @@ other_code code k small big = ne_eqb code k (λ e. omega (arith, e, small, big))
 no_ints : (code : ℕ) → 255 < code → ints_count code ≡ 0
 no_ints code big = rw (other_code code 6 (omega arith) big, other_code code 8 (omega arith) big, other_code code 10 (omega arith) big, other_code code 13 (omega arith) big) refl
 
-ints_code : (code : ℕ) → not (nat_eq (ints_count code) 0) ≡ true → code ≤ 255
+pub ints_code : (code : ℕ) → not (nat_eq (ints_count code) 0) ≡ true → code ≤ 255
 ints_code code h =
     elim (cases_lt 255 code) [
       | inl big ↦ absurd (true≢false (sym h ∙ ap (λ n. not (nat_eq n 0)) (no_ints code big)))
@@ -90,7 +90,7 @@ no_elements code wide big = rw (other_code code 32 (omega arith) big, other_code
 big_code : (code n : ℕ) (wide : Bool) → 255 < code → (if nat_le 32 code then is_multiple n (element_size code wide) else fixed_size_right code wide n) ≡ false
 big_code code n wide big = let e : leb 32 code ≡ true = le-leb 32 code (omega (arith, big)) in rw (e, no_elements code wide big) refl
 
-raw_code : (code n : ℕ) (wide : Bool) → opaque_right code wide n ≡ true → code ≤ 255
+pub raw_code : (code n : ℕ) (wide : Bool) → opaque_right code wide n ≡ true → code ≤ 255
 raw_code code n wide h =
     elim (cases_lt 255 code) [
       | inl big ↦ absurd (let p = (and_parts (may_be_wide code || not wide) (if nat_le 32 code then is_multiple n (element_size code wide) else fixed_size_right code wide n) h).1 in true≢false (sym p ∙ big_code code n wide big))

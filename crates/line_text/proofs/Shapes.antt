@@ -4,7 +4,7 @@ use Rattle.serde_json.specs.declared.value.Value.{Value}
 use Rattle.serde_json.specs.View.{items_view}
 use Rattle.program_edge.specs.declared.status.LineWhy.TheVariants.{Shape}
 use Rattle.line_text.specs.Operations.{four_of}
-use Rattle.line_text.specs.Sessions.{none_of, one_of}
+use Rattle.line_text.specs.Parts.{none_of, one_of}
 
 pub none_more : (vs : List Value) → 1 ≤ length vs → none_of (items_view vs) ≡ Err Shape
 unfolding none_of

@@ -42,27 +42,54 @@ op_values (op.Set path prop v) = v ∷ []
 op_values (op.Call c) = c.args
 op_values o = []
 
--- whether an operation is a spawn or an assignment, those that are built
-abbrev pub is_built_op : Op → Bool
-is_built_op (op.Spawn s) = true
-is_built_op (op.Set path prop v) = true
-is_built_op o = false
+-- the peers that an operation names
+abbrev pub op_peers : Op → List ℤ
+op_peers (op.For path k peer on) = peer ∷ []
+op_peers (op.Filter path k peers) = peers
+op_peers o = []
 
--- a spawn has a scene and no argument
+-- the places of the synchronizers that an operation names
+abbrev pub op_places : Op → List ℕ
+op_places (op.Public path k on) = k ∷ []
+op_places (op.For path k peer on) = k ∷ []
+op_places (op.Filter path k peers) = k ∷ []
+op_places o = []
+
+-- whether a number is that of a peer
+abbrev pub is_peer : ℤ → Bool
+is_peer (pos n) = nat_le 1 n && nat_le n 2147483647
+is_peer (negsuc n) = false
+
+-- whether a number is a place
+abbrev pub is_place : ℕ → Bool
+is_place k = nat_le k 4294967295
+
+-- whether an operation is one of those that are built: all but calls, raw packets and frames
+abbrev pub is_built_op : Op → Bool
+is_built_op (op.Call c) = false
+is_built_op (op.Raw to class bytes) = false
+is_built_op op.Frame = false
+is_built_op o = true
+
+-- a spawn has a scene and no argument, a custom one no scene, no settings and an argument
 abbrev pub IsPlainSpawn : Op → Type 0
 IsPlainSpawn (op.Spawn s) = IsSome s.scene × (s.arg ≡ None)
+IsPlainSpawn (op.Custom s) = (s.scene ≡ None) × (s.sets ≡ []) × IsSome s.arg
 IsPlainSpawn o = Unit {0}
 
--- an operation that is built; its texts are texts, and its values are sound
+-- an operation that is built; its texts are texts, its values are sound, and its peers and places have numbers of such
 pub record IsGiven (o : Op) : Type 0 where
   pub built : is_built_op o ≡ true
   pub texts : list_all is_text (op_texts o) ≡ true
   pub values : list_all is_sound (op_values o) ≡ true
   pub spawn : IsPlainSpawn o
+  pub peers : list_all is_peer (op_peers o) ≡ true
+  pub places : list_all is_place (op_places o) ≡ true
 
 -- whether a line is of a kind that is built
 abbrev pub is_built : SessionLine → Bool
 is_built (line.Event event.Connect) = true
+is_built (line.Event (event.Down peer)) = true
 is_built (line.Event (event.Op peer o)) = is_built_op o
 is_built (line.Event (event.Rel from to)) = true
 is_built (line.Report peer) = true
@@ -78,7 +105,17 @@ abbrev pub line_values : SessionLine → List Variant
 line_values (line.Event (event.Op peer o)) = op_values o
 line_values l = []
 
--- a spawn in a line has a scene and no argument
+-- the peers that the operation of a line names
+abbrev pub line_named : SessionLine → List ℤ
+line_named (line.Event (event.Op peer o)) = op_peers o
+line_named l = []
+
+-- the places of the synchronizers that it names
+abbrev pub line_places : SessionLine → List ℕ
+line_places (line.Event (event.Op peer o)) = op_places o
+line_places l = []
+
+-- a spawn in a line has the parts of one
 abbrev pub HasPlainSpawn : SessionLine → Type 0
 HasPlainSpawn (line.Event (event.Op peer o)) = IsPlainSpawn o
 HasPlainSpawn l = Unit {0}
@@ -93,15 +130,12 @@ line_peers (line.Event (event.Loose from to index)) = from ∷ to ∷ []
 line_peers (line.Event (event.Forge peer class bytes)) = peer ∷ []
 line_peers (line.Report peer) = peer ∷ []
 
--- whether a number is that of a peer
-abbrev pub is_peer : ℤ → Bool
-is_peer (pos n) = nat_le 1 n && nat_le n 2147483647
-is_peer (negsuc n) = false
-
--- a line that is built; its texts are texts, its values are sound, and its peers have numbers of peers
+-- a line that is built; its texts are texts, its values are sound, and its peers and places have numbers of such
 pub record IsGivenLine (l : SessionLine) : Type 0 where
   pub built : is_built l ≡ true
   pub texts : list_all is_text (line_texts l) ≡ true
   pub values : list_all is_sound (line_values l) ≡ true
   pub spawn : HasPlainSpawn l
   pub peers : list_all is_peer (line_peers l) ≡ true
+  pub named : list_all is_peer (line_named l) ≡ true
+  pub places : list_all is_place (line_places l) ≡ true

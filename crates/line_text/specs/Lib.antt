@@ -2,6 +2,7 @@ pub mod Held
 pub mod Lines
 pub mod Operations
 pub mod Parts
+pub mod Peers
 pub mod Reading
 pub mod Scenes
 pub mod Sessions

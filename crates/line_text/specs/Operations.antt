@@ -9,7 +9,8 @@ use Rattle.scene_model.specs.declared.event.Op.TheVariants as op
 use Rattle.program_edge.specs.declared.status.LineWhy.{LineWhy}
 use Rattle.program_edge.specs.declared.status.LineWhy.TheVariants.{Shape, Name, NotBuilt}
 use Rattle.line_text.specs.Reading.{Reading, ◌>>=◌}
-use Rattle.line_text.specs.Parts.{word_read, text_read, array_read, two_read, three_of, list_read}
+use Rattle.line_text.specs.Parts.{word_read, text_read, bool_read, nat_read, array_read, one_of, two_of, two_read, three_of, list_read}
+use Rattle.line_text.specs.Peers.{peer_read}
 use Rattle.line_text.specs.Values.{value_read}
 
 -- a first item, and the items behind it
@@ -61,15 +62,69 @@ set_read items = do
   v ← value_read ds.2
   Ok (op.Set path prop v)
 
+-- a custom spawn: the spawner, the new node's name, and the argument
+unfoldable pub custom_spawn_read : Items → Result Op LineWhy
+custom_spawn_read items = do
+  ds ← three_of items
+  spawner ← text_read ds.0
+  name ← text_read ds.1
+  v ← value_read ds.2
+  Ok (op.Custom (record { spawner = spawner; scene = None; name = name; sets = []; arg = Some v }))
+
+-- a despawn: the node's path
+unfoldable pub despawn_read : Items → Result Op LineWhy
+despawn_read items = do
+  d ← one_of items
+  path ← text_read d
+  Ok (op.Despawn path)
+
+-- a synchronizer: a path and its place at the node
+unfoldable pub sync_read : Reading (List ℕ × ℕ)
+sync_read d = do
+  ds ← two_read d
+  path ← text_read ds.0
+  k ← nat_read 0 4294967295 ds.1
+  Ok (path, k)
+
+-- a synchronizer is public or not
+unfoldable pub public_read : Items → Result Op LineWhy
+public_read items = do
+  ds ← two_of items
+  y ← sync_read ds.0
+  on ← bool_read ds.1
+  Ok (op.Public y.0 y.1 on)
+
+-- it is set for a peer or not
+unfoldable pub for_read : Items → Result Op LineWhy
+for_read items = do
+  ds ← three_of items
+  y ← sync_read ds.0
+  peer ← peer_read ds.1
+  on ← bool_read ds.2
+  Ok (op.For y.0 y.1 peer on)
+
+-- it has one filter more: the peers that it lists
+unfoldable pub filter_read : Items → Result Op LineWhy
+filter_read items = do
+  ds ← two_of items
+  y ← sync_read ds.0
+  peers ← list_read peer_read ds.1
+  Ok (op.Filter y.0 y.1 peers)
+
 -- the words of operations that aren't built yet
 abbrev pub later_ops : List (List ℕ)
-later_ops = codes "custom" ∷ codes "despawn" ∷ codes "public" ∷ codes "for" ∷ codes "filter" ∷ codes "call" ∷ codes "raw" ∷ codes "frame" ∷ []
+later_ops = codes "call" ∷ codes "raw" ∷ codes "frame" ∷ []
 
 -- an operation by its word, of what stands behind the word
 unfoldable pub op_by : List ℕ → Items → Result Op LineWhy
 op_by word items =
     if bytes_eq word (codes "spawn") then spawn_read items
+    else if bytes_eq word (codes "custom") then custom_spawn_read items
+    else if bytes_eq word (codes "despawn") then despawn_read items
     else if bytes_eq word (codes "set") then set_read items
+    else if bytes_eq word (codes "public") then public_read items
+    else if bytes_eq word (codes "for") then for_read items
+    else if bytes_eq word (codes "filter") then filter_read items
     else if has_text word later_ops then Err NotBuilt
     else Err Name
 

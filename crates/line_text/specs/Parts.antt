@@ -81,6 +81,17 @@ array_read (number n) = Err Shape
 array_read (string s) = Err Shape
 array_read (object ms) = Err Shape
 
+-- no items
+unfoldable pub none_of : Items → Result (Unit {0}) LineWhy
+none_of no_items = Ok tt
+none_of (item d ds) = Err Shape
+
+-- one item and no more
+unfoldable pub one_of : Items → Result Data LineWhy
+one_of (item d no_items) = Ok d
+one_of no_items = Err Shape
+one_of (item d (item e ds)) = Err Shape
+
 -- two items and no more
 unfoldable pub two_of : Items → Result (Data × Data) LineWhy
 two_of (item a (item b no_items)) = Ok (a, b)

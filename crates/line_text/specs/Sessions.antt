@@ -9,32 +9,23 @@ use Rattle.program_edge.specs.declared.status.LineWhy.TheVariants.{Shape, Name, 
 use Rattle.line_text.specs.declared.sessions.SessionLine.{SessionLine}
 use Rattle.line_text.specs.declared.sessions.SessionLine.TheVariants as line
 use Rattle.line_text.specs.Reading.{Reading, ◌>>=◌}
-use Rattle.line_text.specs.Parts.{nat_read, two_of}
+use Rattle.line_text.specs.Parts.{none_of, one_of, two_of}
+use Rattle.line_text.specs.Peers.{peer_read}
 use Rattle.line_text.specs.Lines.{line_data}
 use Rattle.line_text.specs.Operations.{worded_read, op_read}
-
--- the number of a peer
-unfoldable pub peer_read : Reading ℤ
-peer_read d = do
-  n ← nat_read 1 2147483647 d
-  Ok (pos n)
-
--- no items
-unfoldable pub none_of : Items → Result (Unit {0}) LineWhy
-none_of no_items = Ok tt
-none_of (item d ds) = Err Shape
-
--- one item and no more
-unfoldable pub one_of : Items → Result Data LineWhy
-one_of (item d no_items) = Ok d
-one_of no_items = Err Shape
-one_of (item d (item e ds)) = Err Shape
 
 -- a client connects
 unfoldable pub connect_read : Items → Result SessionLine LineWhy
 connect_read items = do
   _ ← none_of items
   Ok (line.Event event.Connect)
+
+-- a client goes
+unfoldable pub down_read : Items → Result SessionLine LineWhy
+down_read items = do
+  d ← one_of items
+  peer ← peer_read d
+  Ok (line.Event (event.Down peer))
 
 -- an operation at a peer
 unfoldable pub at_peer_read : Items → Result SessionLine LineWhy
@@ -61,12 +52,13 @@ report_read items = do
 
 -- the words of lines that aren't built yet
 abbrev pub later_lines : List (List ℕ)
-later_lines = codes "down" ∷ codes "loose" ∷ codes "forge" ∷ []
+later_lines = codes "loose" ∷ codes "forge" ∷ []
 
 -- a line by its word, of what stands behind the word
 unfoldable pub line_by : List ℕ → Items → Result SessionLine LineWhy
 line_by word items =
     if bytes_eq word (codes "connect") then connect_read items
+    else if bytes_eq word (codes "down") then down_read items
     else if bytes_eq word (codes "op") then at_peer_read items
     else if bytes_eq word (codes "rel") then rel_read items
     else if bytes_eq word (codes "report") then report_read items

@@ -5,13 +5,13 @@ ghost use Rattle.serde_json.specs.View.{view, items_view};
 ghost use Rattle.gd_variant.specs.Words.{has_text};
 ghost use Rattle.gd_variant.specs.Sound.{is_text, is_sound};
 ghost use Rattle.line_text.specs.Reading.{Gives, each_read};
-ghost use Rattle.line_text.specs.Parts.{list_read, text_read};
+ghost use Rattle.line_text.specs.Parts.{list_read};
 ghost use Rattle.line_text.specs.Held.{IsGiven, prop_names, prop_values};
-ghost use Rattle.line_text.specs.Operations.{first_of, four_of, later_ops, op_by, op_read, set_read, setting_read, spawn_read, worded_read};
+ghost use Rattle.line_text.specs.Operations.{custom_spawn_read, despawn_read, first_of, four_of, later_ops, op_by, op_read, set_read, setting_read, spawn_read, worded_read};
 
-use crate::parts::{array_of, pair_of, text_of, three_of, word_of};
+use crate::parts::{array_of, one_of, pair_of, three_of, whole_text_of, word_of};
+use crate::sights::{filter_of, for_of, public_of};
 use crate::values::value_of;
-use gd_variant::Text;
 use program_edge::{LineStop, LineWhy};
 use scene_model::{Op, Prop, PropList, SpawnOp};
 use serde_json::Value;
@@ -53,16 +53,6 @@ fn four_of(items: &[Value]) -> Result<(&Value, &Value, &Value, &Value), LineStop
         [_, _, _] => Err(LineStop::LineBad(LineWhy::Shape)),
         [_, _, _, _, _, ..] => Err(LineStop::LineBad(LineWhy::Shape)),
     }
-}
-
-/// A text that is kept. Its type says that it is UTF-8 without a zero byte.
-fn whole_text_of(alloc: Global, value: &Value) -> Result<Text, LineStop>
-    ensures gives { Gives (λ t. t) result (text_read (view value.now)) }
-    ensures whole { IfOk result (λ t. is_text t ≡ true) }
-{
-    let text = text_of(alloc, value)?;
-    let _whole = text.as_str();
-    Ok(text)
 }
 
 /// A property and its value.
@@ -121,6 +111,33 @@ fn spawn_of(alloc: Global, items: &[Value]) -> Result<Op, LineStop>
     }))
 }
 
+#[tactic(auto, unfolding(crate::specs::Operations::custom_spawn_read))]
+fn custom_of(alloc: Global, items: &[Value]) -> Result<Op, LineStop>
+    ensures gives { Gives (λ op. op) result (custom_spawn_read (items_view items.now)) }
+    ensures given { IfOk result IsGiven }
+{
+    let (spawner, name, arg) = three_of(items)?;
+    let spawner = whole_text_of(alloc, spawner)?;
+    let name = whole_text_of(alloc, name)?;
+    let arg = value_of(alloc, arg)?;
+    Ok(Op::Custom(SpawnOp {
+        spawner,
+        scene: None,
+        name,
+        sets: Items::new(alloc),
+        arg: Some(arg),
+    }))
+}
+
+#[tactic(auto, unfolding(crate::specs::Operations::despawn_read))]
+fn despawn_of(alloc: Global, items: &[Value]) -> Result<Op, LineStop>
+    ensures gives { Gives (λ op. op) result (despawn_read (items_view items.now)) }
+    ensures given { IfOk result IsGiven }
+{
+    let path = whole_text_of(alloc, one_of(items)?)?;
+    Ok(Op::Despawn { path })
+}
+
 #[tactic(auto, unfolding(crate::specs::Operations::set_read))]
 fn set_of(alloc: Global, items: &[Value]) -> Result<Op, LineStop>
     ensures gives { Gives (λ op. op) result (set_read (items_view items.now)) }
@@ -137,14 +154,7 @@ fn set_of(alloc: Global, items: &[Value]) -> Result<Op, LineStop>
 fn is_later_op(word: &str) -> bool
     ensures { result ≡ has_text word.now later_ops }
 {
-    word == "custom"
-        || word == "despawn"
-        || word == "public"
-        || word == "for"
-        || word == "filter"
-        || word == "call"
-        || word == "raw"
-        || word == "frame"
+    word == "call" || word == "raw" || word == "frame"
 }
 
 /// An operation by its word, of what stands behind the word.
@@ -155,7 +165,12 @@ fn op_by(alloc: Global, word: &str, items: &[Value]) -> Result<Op, LineStop>
 {
     match word {
         "spawn" => spawn_of(alloc, items),
+        "custom" => custom_of(alloc, items),
+        "despawn" => despawn_of(alloc, items),
         "set" => set_of(alloc, items),
+        "public" => public_of(alloc, items),
+        "for" => for_of(alloc, items),
+        "filter" => filter_of(alloc, items),
         _ if is_later_op(word) => Err(LineStop::LineBad(LineWhy::NotBuilt)),
         _ => Err(LineStop::LineBad(LineWhy::Name)),
     }

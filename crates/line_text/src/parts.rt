@@ -1,12 +1,13 @@
 //! The parts that lines are made of: texts, truth values, numbers, arrays of a length, objects of known keys.
-ghost use Rattle.std.specs.Prelude.{◌≡◌, ◌≤◌, IfOk, option_map, length, map};
+ghost use Rattle.std.specs.Prelude.{◌≡◌, ◌≤◌, IfOk, true, option_map, length, map};
 ghost use Rattle.std.specs.Int.{w32, w64};
 ghost use Rattle.std.specs.Int.RustNames.{FitsSigned};
 ghost use Rattle.serde_json.specs.Find.{get_member};
 ghost use Rattle.serde_json.specs.View.{view, items_view, members_view};
 ghost use Rattle.gd_variant.specs.Words.{has_text, text_eq};
+ghost use Rattle.gd_variant.specs.Sound.{is_text};
 ghost use Rattle.line_text.specs.Reading.{Gives, each_read};
-ghost use Rattle.line_text.specs.Parts.{all_known, array_read, bool_read, bytes_read, key_read, list_read, i64_read, nat_read, object_read, i32_read, text_read, three_of, three_read, two_of, two_read, word_read};
+ghost use Rattle.line_text.specs.Parts.{all_known, array_read, bool_read, bytes_read, key_read, list_read, i64_read, nat_read, none_of, object_read, one_of, i32_read, text_read, three_of, three_read, two_of, two_read, word_read};
 
 use gd_variant::{Bytes, List64, Text};
 use hex::FromHexError;
@@ -37,6 +38,16 @@ pub fn text_of(alloc: Global, value: &Value) -> Result<Text, LineStop>
         return Err(LineStop::LineBad(LineWhy::Range));
     }
     Ok(Text::from_str(alloc, word)?)
+}
+
+/// A text that is kept. Its type says that it is UTF-8 without a zero byte.
+pub fn whole_text_of(alloc: Global, value: &Value) -> Result<Text, LineStop>
+    ensures gives { Gives (λ t. t) result (text_read (view value.now)) }
+    ensures whole { IfOk result (λ t. is_text t ≡ true) }
+{
+    let text = text_of(alloc, value)?;
+    let _whole = text.as_str();
+    Ok(text)
 }
 
 #[tactic(auto, unfolding(crate::specs::Parts::bool_read))]
@@ -117,6 +128,29 @@ pub fn array_of(value: &Value) -> Result<&[Value], LineStop>
     match value {
         Value::Array(items) => Ok(items.as_slice()),
         _ => Err(LineStop::LineBad(LineWhy::Shape)),
+    }
+}
+
+/// No items.
+#[tactic(auto, unfolding(crate::specs::Parts::none_of))]
+pub fn none_of(items: &[Value]) -> Result<(), LineStop>
+    ensures { Gives (λ x. x) result (none_of (items_view items.now)) }
+{
+    match items {
+        [] => Ok(()),
+        [_, ..] => Err(LineStop::LineBad(LineWhy::Shape)),
+    }
+}
+
+/// One item and no more.
+#[tactic(auto, unfolding(crate::specs::Parts::one_of))]
+pub fn one_of(items: &[Value]) -> Result<&Value, LineStop>
+    ensures { Gives (λ x. view x.now) result (one_of (items_view items.now)) }
+{
+    match items {
+        [only] => Ok(only),
+        [] => Err(LineStop::LineBad(LineWhy::Shape)),
+        [_, _, ..] => Err(LineStop::LineBad(LineWhy::Shape)),
     }
 }
 

@@ -9,7 +9,7 @@ use crate::line::data_of;
 use crate::lists::{FromValue, list_of};
 use crate::parts::{key_of, object_of, text_of};
 use program_edge::{LineStop, LineWhy};
-use scene_check::check;
+use scene_check::check_judged;
 use scene_model::{Scene, SceneDef};
 use serde_json::Value;
 use std::alloc::Global;
@@ -52,7 +52,7 @@ fn valid_scene_of(alloc: Global, value: &Value) -> Result<Scene, LineStop>
     ensures valid { IfOk result IsValidScene }
 {
     let scene = scene_of(alloc, value)?;
-    match check(&scene) {
+    match check_judged(&scene) {
         Ok(()) => Ok(scene),
         Err(bad) => Err(LineStop::LineBad(LineWhy::Scene(bad))),
     }

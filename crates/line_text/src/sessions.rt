@@ -7,11 +7,12 @@ ghost use Rattle.gd_variant.specs.Sound.{is_text, is_sound};
 ghost use Rattle.line_text.specs.Reading.{Gives};
 ghost use Rattle.line_text.specs.Held.{HasPlainSpawn, IsGivenLine, is_built, is_peer, line_peers, line_texts, line_values};
 ghost use Rattle.line_text.specs.WrittenLines.{ReadsSessions};
-ghost use Rattle.line_text.specs.Sessions.{at_peer_read, connect_read, later_lines, line_by, line_read, none_of, one_of, peer_read, rel_read, report_read, session_line_read};
+ghost use Rattle.line_text.specs.Sessions.{at_peer_read, connect_read, down_read, later_lines, line_by, line_read, rel_read, report_read, session_line_read};
 
 use crate::line::data_of;
 use crate::operations::{op_of, worded_of};
-use crate::parts::{nat_of, two_of};
+use crate::parts::{none_of, one_of, two_of};
+use crate::peers::peer_of;
 use program_edge::{LineStop, LineWhy};
 use scene_model::WorldEvent;
 use serde_json::Value;
@@ -26,40 +27,6 @@ pub enum SessionLine {
     Report(i32),
 }
 
-/// The number of a peer, 1 to 2,147,483,647.
-#[tactic(auto, unfolding(crate::specs::Sessions::peer_read))]
-fn peer_of(value: &Value) -> Result<i32, LineStop>
-    ensures gives { Gives (λ p. p) result (peer_read (view value.now)) }
-    ensures peer { IfOk result (λ p. is_peer p ≡ true) }
-{
-    let n = nat_of(1, 2147483647, value)?;
-    match i32::try_from(n) {
-        Ok(peer) => Ok(peer),
-        Err(_) => Err(LineStop::LineBad(LineWhy::Range)),
-    }
-}
-
-#[tactic(auto, unfolding(crate::specs::Sessions::none_of))]
-fn none_of(items: &[Value]) -> Result<(), LineStop>
-    ensures { Gives (λ x. x) result (none_of (items_view items.now)) }
-{
-    match items {
-        [] => Ok(()),
-        [_, ..] => Err(LineStop::LineBad(LineWhy::Shape)),
-    }
-}
-
-#[tactic(auto, unfolding(crate::specs::Sessions::one_of))]
-fn one_of(items: &[Value]) -> Result<&Value, LineStop>
-    ensures { Gives (λ x. view x.now) result (one_of (items_view items.now)) }
-{
-    match items {
-        [only] => Ok(only),
-        [] => Err(LineStop::LineBad(LineWhy::Shape)),
-        [_, _, ..] => Err(LineStop::LineBad(LineWhy::Shape)),
-    }
-}
-
 #[tactic(auto, unfolding(crate::specs::Sessions::connect_read))]
 fn connect_of(items: &[Value]) -> Result<SessionLine, LineStop>
     ensures gives { Gives (λ x. x) result (connect_read (items_view items.now)) }
@@ -67,6 +34,15 @@ fn connect_of(items: &[Value]) -> Result<SessionLine, LineStop>
 {
     none_of(items)?;
     Ok(SessionLine::Event(WorldEvent::Connect))
+}
+
+#[tactic(auto, unfolding(crate::specs::Sessions::down_read))]
+fn down_of(items: &[Value]) -> Result<SessionLine, LineStop>
+    ensures gives { Gives (λ x. x) result (down_read (items_view items.now)) }
+    ensures given { IfOk result IsGivenLine }
+{
+    let peer = peer_of(one_of(items)?)?;
+    Ok(SessionLine::Event(WorldEvent::Down(peer)))
 }
 
 #[tactic(auto, unfolding(crate::specs::Sessions::at_peer_read))]
@@ -104,7 +80,7 @@ fn report_of(items: &[Value]) -> Result<SessionLine, LineStop>
 fn is_later_line(word: &str) -> bool
     ensures { result ≡ has_text word.now later_lines }
 {
-    word == "down" || word == "loose" || word == "forge"
+    word == "loose" || word == "forge"
 }
 
 /// A line by its word, of what stands behind the word.
@@ -115,6 +91,7 @@ fn line_by(alloc: Global, word: &str, items: &[Value]) -> Result<SessionLine, Li
 {
     match word {
         "connect" => connect_of(items),
+        "down" => down_of(items),
         "op" => at_peer_of(alloc, items),
         "rel" => rel_of(items),
         "report" => report_of(items),
@@ -132,9 +109,11 @@ fn line_of(alloc: Global, value: &Value) -> Result<SessionLine, LineStop>
     line_by(alloc, word, items)
 }
 
-/// What a line of a session asks for: `["connect"]`, `["op",p,OP]`, `["rel",a,b]` or `["report",p]`, where
-/// OP is `["spawn",spawner,scene,name,[[property,value]]]` or `["set",path,property,value]`, and each of p,
-/// a and b is the number of a peer.
+/// What a line of a session asks for: `["connect"]`, `["down",p]`, `["op",p,OP]`, `["rel",a,b]` or
+/// `["report",p]`, where each of p, a and b is the number of a peer, and OP is one of
+/// `["spawn",spawner,scene,name,[[property,value]]]`, `["custom",spawner,name,value]`, `["despawn",path]`,
+/// `["set",path,property,value]`, `["public",[path,k],on]`, `["for",[path,k],p,on]` and
+/// `["filter",[path,k],[p]]`; `[path,k]` is the synchronizer at place k of the node at the path, from 0.
 ///
 /// `LineBad` has the first thing wrong. The word of a line or of an operation is judged before the length,
 /// so `NotBuilt` comes at a word that isn't read yet, whatever stands behind it.

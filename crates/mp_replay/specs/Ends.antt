@@ -1,8 +1,7 @@
--- Which words the program knows, and for which reasons a line may stop it.
+-- Which words the program knows.
 use Rattle.std.specs.Prelude.{ℕ, Bool, false, ◌||◌, List, [], ◌∷◌, String, string_bytes, codes}
 use Rattle.std.specs.declared.alloc.Global.{Global}
 use Rattle.gd_variant.specs.Words.{text_eq}
-use Rattle.program_edge.specs.declared.status.LineWhy.{LineWhy}
 
 -- whether the words are this one word
 abbrev pub is_the_word : List ℕ → List (String Global) → Bool
@@ -13,14 +12,18 @@ is_the_word word ws = false
 abbrev pub is_replay : List (String Global) → Bool
 is_replay ws = is_the_word (codes "replay") ws
 
+-- the words that run a journal again
+abbrev pub is_rerun : List (String Global) → Bool
+is_rerun ws = is_the_word (codes "rerun") ws
+
 -- the words that show packets
 abbrev pub is_show : List (String Global) → Bool
 is_show ws = is_the_word (codes "show") ws
 
 -- the words that the program knows
 abbrev pub is_known : List (String Global) → Bool
-is_known ws = is_replay ws || is_show ws
+is_known ws = is_replay ws || is_rerun ws || is_show ws
 
--- a line may stop a replay for any reason
-abbrev pub AnyReason : LineWhy → Type 0
-AnyReason reason = Unit {0}
+-- a replay may end for want of room
+abbrev pub MayFill : Type 0
+MayFill = Unit {0}

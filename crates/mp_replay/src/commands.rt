@@ -1,28 +1,24 @@
 //! What the words of the command line ask for.
 ghost use Rattle.std.specs.Prelude.{◌≡◌, ◌↔◌, true, false};
 ghost use Rattle.program_edge.specs.declared.status.Status.TheVariants as status;
-ghost use Rattle.line_runs.specs.Ends.{MayEnd};
+ghost use Rattle.journal_rerun.specs.Journals.{Reruns};
+ghost use Rattle.line_runs.specs.Ends.{AnyReason, MayEnd};
 ghost use Rattle.packet_show.specs.Shown.{IsHex};
-ghost use Rattle.mp_replay.specs.Ends.{AnyReason, is_known, is_replay as is_replay_of, is_show as is_show_of};
+ghost use Rattle.mp_replay.specs.Ends.{MayFill, is_known, is_replay as is_replay_of, is_rerun as is_rerun_of, is_show as is_show_of};
 ghost use Rattle.mp_replay.specs.Sessions.{Replays, Shows};
 
 use crate::session::Replayer;
-use crate::words::{is_replay, is_show};
-use line_runs::run_lines;
+use crate::words::{is_replay, is_rerun, is_show};
+use journal_rerun::rerun;
+use line_runs::{LONGEST_LINE, MOST_JUDGED, run_lines};
 use packet_show::show;
 use program_edge::{Sink, Source, Status};
 use std::alloc::Global;
 
-/// The most bytes of a line.
-const LONGEST_LINE: usize = 33_554_432;
-
-/// The most bytes of an input that are judged.
-const MOST_JUDGED: u32 = 1_073_741_824;
-
 /// Replays a session: reads it from the source, line by line, and writes to the sink what each line
 /// does and what each report holds, before it waits for more.
 fn replay<S: Source, K: Sink>(alloc: Global, source: &mut S, sink: &mut K) -> Status
-    ensures ends { MayEnd AnyReason (S.faults source.old) (S.faults source.new) (K.faults sink.old) (K.faults sink.new) result }
+    ensures ends { MayEnd AnyReason MayFill (S.faults source.old) (S.faults source.new) (K.faults sink.old) (K.faults sink.new) result }
     ensures output { Replays (S.left source.old) (K.held sink.old) result (K.held sink.new) }
 {
     let mut replayer = Replayer::new();
@@ -44,13 +40,20 @@ fn replay<S: Source, K: Sink>(alloc: Global, source: &mut S, sink: &mut K) -> St
 /// them. The session of the lines that gave what was written has a valid scene and a script that happened,
 /// and each report in it shows of every joined peer what the delivered prefix of that peer's changes makes.
 ///
+/// The one word `rerun` reads the journal of one peer, line by line, and writes what each line does and at
+/// the end what the peer reports: the answers and the report of the definitions of one peer. Line 1 is the
+/// scene, line 2 the peer's number, each line behind them an entry, and `["end"]` ends the input.
+///
 /// The one word `show` reads packets in hexadecimal, one a line, and writes for each a line that says
 /// what the packet holds, or where and why the bytes are none.
 ///
-/// - `Done`: the input was read to its end, and all that it gives was written.
+/// - `Done`: the input was read to its end, or to the line that ends a journal, and all that it gives was
+///   written.
 /// - `Usage`: other words. Nothing is read or written.
+/// - `PoolFull`: at the first line that stops the run, by its number, a replay puts more in flight than there is
+///   room for; nothing is written of it.
 /// - `BadLine`: the first line that stops the run, by its number, isn't in the grammar of its command,
-///   and why. An input without any byte is a wrong line 1 for `replay`.
+///   and why. An input without any byte is a wrong line 1 for `replay` and `rerun`.
 /// - `LineLong`: the first line that stops the run, by its number, has more than 33,554,432 bytes.
 /// - `InputLong`: the input is longer than 1,073,741,824 bytes, and no line stops the run.
 /// - `ReadFault`, `WriteFault`: the source or the sink failed in this call.
@@ -66,14 +69,19 @@ pub fn run<S: Source, K: Sink>(
     sink: &mut K,
 ) -> Status
     ensures usage { result ≡ status.Usage ↔ is_known words.now ≡ false }
-    ensures ends { is_replay_of words.now ≡ true → MayEnd AnyReason (S.faults source.old) (S.faults source.new) (K.faults sink.old) (K.faults sink.new) result }
+    ensures ends { is_replay_of words.now ≡ true → MayEnd AnyReason MayFill (S.faults source.old) (S.faults source.new) (K.faults sink.old) (K.faults sink.new) result }
     ensures output { is_replay_of words.now ≡ true → Replays (S.left source.old) (K.held sink.old) result (K.held sink.new) }
-    ensures show_ends { is_show_of words.now ≡ true → MayEnd IsHex (S.faults source.old) (S.faults source.new) (K.faults sink.old) (K.faults sink.new) result }
+    ensures rerun_ends { is_rerun_of words.now ≡ true → MayEnd AnyReason ⊥ (S.faults source.old) (S.faults source.new) (K.faults sink.old) (K.faults sink.new) result }
+    ensures rerun_output { is_rerun_of words.now ≡ true → Reruns (S.left source.old) (K.held sink.old) result (K.held sink.new) }
+    ensures show_ends { is_show_of words.now ≡ true → MayEnd IsHex ⊥ (S.faults source.old) (S.faults source.new) (K.faults sink.old) (K.faults sink.new) result }
     ensures show_output { is_show_of words.now ≡ true → Shows (S.left source.old) (K.held sink.old) result (K.held sink.new) }
     ensures untouched { is_known words.now ≡ false → (source.new ≡ source.old) × (sink.new ≡ sink.old) }
 {
     if is_show(words) {
         return show(alloc, source, sink);
+    }
+    if is_rerun(words) {
+        return rerun(alloc, source, sink);
     }
     if !is_replay(words) {
         return Status::Usage;

@@ -1,4 +1,5 @@
-//! The commands of the program over a source and a sink: a session is replayed, packets are shown.
+//! The commands of the program over a source and a sink: a session is replayed, a journal is run again,
+//! packets are shown.
 #![tactic(auto)]
 
 mod commands;

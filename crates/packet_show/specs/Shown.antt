@@ -58,10 +58,3 @@ TextOf line (Err OutOfMemory) = Unit {0}
 -- a line stops a run of `show` for one reason alone
 abbrev pub IsHex : LineWhy → Type 0
 IsHex reason = reason ≡ Hex
-
--- the most bytes of a line, and the most bytes of an input that are judged
-abbrev pub longest_line : ℕ
-longest_line = 33554432
-
-abbrev pub most_judged : ℕ
-most_judged = 1073741824

@@ -2,19 +2,14 @@
 ghost use Rattle.std.specs.Prelude.{◌≡◌, List, ℕ, Some};
 ghost use Rattle.line_runs.specs.Ends.{MayEnd};
 ghost use Rattle.line_runs.specs.Output.{EndsAs, read_in};
-ghost use Rattle.packet_show.specs.Shown.{IsHex, NothingKnown, longest_line, most_judged, show_command};
+ghost use Rattle.line_runs.specs.Limits.{longest_line, most_judged};
+ghost use Rattle.packet_show.specs.Shown.{IsHex, NothingKnown, show_command};
 
 use crate::lines::line_text;
 use gd_variant::OutOfMemory;
-use line_runs::{Behind, LineTaker, run_lines};
+use line_runs::{Behind, LONGEST_LINE, LineTaker, MOST_JUDGED, run_lines};
 use program_edge::{LineStop, Sink, Source, Status};
 use std::alloc::Global;
-
-/// The most bytes of a line.
-const LONGEST_LINE: usize = 33_554_432;
-
-/// The most bytes of an input that are judged.
-const MOST_JUDGED: u32 = 1_073_741_824;
 
 /// Shows each line by itself.
 #[derive(Drop)]
@@ -24,6 +19,8 @@ impl LineTaker for Shower {
     ghost command = { show_command };
 
     ghost reasons = { IsHex };
+
+    ghost fills = { ⊥ };
 
     ghost took = { λ s ls. Unit {0} };
 
@@ -75,7 +72,7 @@ impl LineTaker for Shower {
 /// run, whole lines at `ReadFault` and `OutOfMemory`, and some of the first bytes at `WriteFault`. Bytes
 /// that are no packet stop nothing: their line says where they are wrong, and why.
 pub fn show<S: Source, K: Sink>(alloc: Global, source: &mut S, sink: &mut K) -> Status
-    ensures ends { MayEnd IsHex (S.faults source.old) (S.faults source.new) (K.faults sink.old) (K.faults sink.new) result }
+    ensures ends { MayEnd IsHex ⊥ (S.faults source.old) (S.faults source.new) (K.faults sink.old) (K.faults sink.new) result }
     ensures output { (input held : List ℕ) → S.left source.old ≡ Some input → K.held sink.old ≡ Some held → EndsAs (read_in show_command longest_line most_judged input) held result (K.held sink.new) }
 {
     let mut shower = Shower;

@@ -15,8 +15,8 @@ use Rattle.gd_variant.specs.declared.message.Plain.TheVariants as packet
 use Rattle.gd_variant.specs.declared.message.Message.TheVariants.{Plain as plain_packet}
 use Rattle.variant_codec.proofs.Forms.{small_written_size, small_int_short}
 use Rattle.packet_form.specs.Packets.{most_bytes, IsEncodable, IsWritable}
-use Rattle.packet_form.specs.Written.{written_value, written_values, written_packet, AreSound}
-use Rattle.packet_form.proofs.Lengths.{spawn_size}
+use Rattle.packet_form.specs.Written.{written_value, written_values, written_packet, arg_bytes, IsArgSound, AreSound}
+use Rattle.packet_form.proofs.Lengths.{byte_size, word_size, arg_size, filled_spawn_size}
 use Rattle.packet_form.proofs.Written.{round_trip}
 use Rattle.scene_model.specs.declared.scene.Scene.{Scene}
 use Rattle.scene_model.specs.declared.scene.Prop.{Prop}
@@ -30,7 +30,7 @@ use Rattle.headless_tree.specs.Nodes.{value_at}
 use Rattle.peer_laws.specs.Shown.{values_in}
 use Rattle.peer_laws.proofs.Places.{all_found}
 use Rattle.peer_steps.specs.declared.rows.SpawnedRow.{SpawnedRow}
-use Rattle.peer_steps.specs.Rights.{is_right_value, has_right_values, is_right_row}
+use Rattle.peer_steps.specs.Rights.{is_right_value, has_right_values, is_right_argument, is_right_byte, is_right_row}
 use Rattle.peer_steps.specs.Steps.{row_packet}
 use Rattle.peer_core.specs.Forms.{packet_form}
 use Rattle.peer_core.proofs.SpawnProps.{few_at}
@@ -71,9 +71,10 @@ values_sound (v ∷ vs) h =
 
 -- packets
 
--- what is asked of a spawn without a custom argument
-pub record IsShown (s : Scene) (place byte : ℕ) (ids name : List ℕ) (values : List Variant) : Type 0 where
-  pub byte_below : byte < 255
+-- what is asked of a spawn
+pub record IsShown (s : Scene) (place byte : ℕ) (ids name : List ℕ) (arg : Option Variant) (values : List Variant) : Type 0 where
+  pub byte_right : is_right_byte byte arg ≡ true
+  pub argument : is_right_argument arg ≡ true
   pub named : is_name name ≡ true
   pub each_id : length ids ≡ length (syncs_at s (Some place))
   pub each_value : length values ≡ length (all_spawn_props (syncs_at s (Some place)))
@@ -85,15 +86,27 @@ name_short name h = leb-true (length name) 64 (and_parts _ _ (and_parts _ _ h).0
 no_custom : (byte : ℕ) → byte < 255 → nat_eq byte 255 ≡ false
 no_custom byte lt = ne_eqb byte 255 (λ e. omega (arith, e, lt))
 
+argument_sound : (byte : ℕ) (arg : Option Variant) → is_right_byte byte arg ≡ true → is_right_argument arg ≡ true → IsArgSound byte arg
+argument_sound byte None right h = no_custom byte (ltb-true byte 255 right)
+argument_sound byte (Some v) right h = (right, (and_parts (is_sound v) (fits v) h).0)
+
+argument_short : (arg : Option Variant) → is_right_argument arg ≡ true → length (arg_bytes arg) ≤ 65540
+argument_short None h = omega arith
+argument_short (Some v) h = omega (arith, arg_size v, value_short v h)
+
 -- a spawn of a valid scene has a packet
-pub spawn_encodable : (s : Scene) → IsValidScene s → (place byte spawner net : ℕ) (ids name : List ℕ) (values : List Variant) → IsShown s place byte ids name values
-    → IsEncodable (plain_packet (packet.Spawn byte spawner net ids name None values))
-spawn_encodable s v place byte spawner net ids name values r = record { sound = (no_custom byte r.byte_below, values_sound values r.values_right); short = short }
+pub spawn_encodable : (s : Scene) → IsValidScene s → (place byte spawner net : ℕ) (ids name : List ℕ) (arg : Option Variant) (values : List Variant) → IsShown s place byte ids name arg values
+    → IsEncodable (plain_packet (packet.Spawn byte spawner net ids name arg values))
+spawn_encodable s v place byte spawner net ids name arg values r = record { sound = (argument_sound byte arg r.byte_right r.argument, values_sound values r.values_right); short = short }
   where
-    short : length (written_packet (plain_packet (packet.Spawn byte spawner net ids name None values))) ≤ most_bytes
+    short : length (written_packet (plain_packet (packet.Spawn byte spawner net ids name arg values))) ≤ most_bytes
     short =
         let few = few_at s v place in
-        omega (arith, spawn_size byte spawner net ids name (written_values values), values_short values r.values_right, name_short name r.named, r.each_id, r.each_value, few.syncs, few.props)
+        omega (arith, filled_spawn_size byte spawner net ids name arg values, argument_short arg r.argument, values_short values r.values_right, name_short name r.named, r.each_id, r.each_value, few.syncs, few.props)
+
+-- so has the packet that hides a row
+pub despawn_encodable : (num : ℕ) → IsEncodable (plain_packet (packet.Despawn num))
+despawn_encodable num = record { sound = tt; short = omega (arith, length-append (word w8 5) (word w32 num), byte_size 5, word_size num) }
 
 -- the values of nodes
 
@@ -117,12 +130,14 @@ values_right nodes path (p ∷ ps) h = and_from (is_right_value (or_else (value_
 
 -- rows
 
-row_shown : (s : Scene) (nodes : List Live) → list_all has_right_values nodes ≡ true → (r : SpawnedRow) → is_right_row s r ≡ true → IsShown s r.place r.byte r.ids r.name (values_in nodes r.path (all_spawn_props (syncs_at s (Some r.place))))
+row_shown : (s : Scene) (nodes : List Live) → list_all has_right_values nodes ≡ true → (r : SpawnedRow) → is_right_row s r ≡ true → IsShown s r.place r.byte r.ids r.name r.arg (values_in nodes r.path (all_spawn_props (syncs_at s (Some r.place))))
 row_shown s nodes values r h =
-    let parts = and_parts (is_name r.name && nat_eq (length r.ids) (length (syncs_at s (Some r.place)))) (nat_lt r.byte 255 && nat_lt r.place (length s.scenes)) h in
+    let parts = and_parts (is_name r.name && nat_eq (length r.ids) (length (syncs_at s (Some r.place)))) ((is_right_byte r.byte r.arg && is_right_argument r.arg) && nat_lt r.place (length s.scenes)) h in
     let front = and_parts (is_name r.name) (nat_eq (length r.ids) (length (syncs_at s (Some r.place)))) parts.0 in
+    let given = and_parts (is_right_byte r.byte r.arg) (is_right_argument r.arg) (and_parts (is_right_byte r.byte r.arg && is_right_argument r.arg) (nat_lt r.place (length s.scenes)) parts.1).0 in
     record {
-      byte_below = ltb-true r.byte 255 (and_parts (nat_lt r.byte 255) (nat_lt r.place (length s.scenes)) parts.1).0;
+      byte_right = given.0;
+      argument = given.1;
       named = front.0;
       each_id = eqb-true (length r.ids) (length (syncs_at s (Some r.place))) front.1;
       each_value = length-map (all_spawn_props (syncs_at s (Some r.place))) (λ p. or_else (value_at nodes r.path p) Nil);
@@ -131,7 +146,7 @@ row_shown s nodes values r h =
 
 -- a row has a packet
 pub encodable : (s : Scene) → IsValidScene s → (nodes : List Live) → list_all has_right_values nodes ≡ true → (r : SpawnedRow) → is_right_row s r ≡ true → IsEncodable (plain_packet (row_packet s nodes r))
-encodable s v nodes values r h = spawn_encodable s v r.place r.byte (or_else (fixed_path_id s r.spawner) 0) r.num r.ids r.name (values_in nodes r.path (all_spawn_props (syncs_at s (Some r.place)))) (row_shown s nodes values r h)
+encodable s v nodes values r h = spawn_encodable s v r.place r.byte (or_else (fixed_path_id s r.spawner) 0) r.num r.ids r.name r.arg (values_in nodes r.path (all_spawn_props (syncs_at s (Some r.place)))) (row_shown s nodes values r h)
 
 -- what is written of a message that has a packet is read as that message
 pub readable : (p : Plain) → IsWritable (plain_packet p) → packet_form.read_packet (packet_form.written_packet (plain_packet p)) ≡ Ok (plain_packet p)

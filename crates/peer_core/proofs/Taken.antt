@@ -1,10 +1,11 @@
 -- What the parts of a peer make is one step on what it keeps, and the parts fit afterwards.
-use Rattle.std.proofs.Common.{◌≡◌, ◌-◌, ℕ, ℤ, Bool, true, false, List, [], ◌∷◌, ◌++◌, refl, sym, ap, ap₂, ◌∙◌, subst, length, Option, Some, None, arith, length-append}
-use Rattle.std.specs.Prelude.{slice_get, is_some, map, IfOk, Result, Ok, Err, if◌then◌else◌}
+use Rattle.std.proofs.Common.{◌≡◌, ◌-◌, ℕ, ℤ, Bool, true, false, ◌&&◌, ◌||◌, List, [], ◌∷◌, ◌++◌, refl, sym, ap, ap₂, ◌∙◌, subst, length, Option, Some, None, arith, length-append}
+use Rattle.std.specs.Prelude.{slice_get, is_some, is_none, int_lt, map, option_map, option_and_then, IfOk, Result, Ok, Err, if◌then◌else◌}
 use Rattle.std.specs.Ordering.{int_eq}
 use Rattle.std.specs.List.{list_all}
+use Rattle.std.proofs.lemmas.Bool.{and_parts}
 use Rattle.gd_variant.specs.Sound.{is_sound}
-use Rattle.gd_variant.specs.Words.{has_int, or_else}
+use Rattle.gd_variant.specs.Words.{has_int, or_else, put_by, some_is}
 use Rattle.gd_variant.specs.declared.value.Variant.{Variant}
 use Rattle.gd_variant.specs.declared.text.OutOfMemory.{OutOfMemory}
 use Rattle.gd_variant.specs.declared.message.Message.{Message}
@@ -19,23 +20,31 @@ use Rattle.scene_model.specs.declared.outcome.Out.{Out}
 use Rattle.scene_model.specs.declared.outcome.Fault.{Fault}
 use Rattle.scene_model.specs.declared.outcome.Refusal.{Refusal}
 use Rattle.scene_model.specs.declared.outcome.Refusal.TheVariants.{BadPeer}
+use Rattle.scene_model.specs.Valid.{IsValidScene}
+use Rattle.peer_model.specs.Updates.{Live, live_at}
 use Rattle.headless_tree.specs.Nodes.{TreeOf}
+use Rattle.peer_laws.specs.Built.{is_empty}
+use Rattle.sight_laws.specs.Sights.{RowSight, Sights, row_sees, shown_to_new}
 use Rattle.peer_steps.specs.declared.rows.SpawnedRow.{SpawnedRow}
+use Rattle.peer_steps.specs.Arguments.{is_right_spawn, is_sound_argument}
 use Rattle.peer_steps.specs.Calls.{shown_to_each}
 use Rattle.peer_steps.specs.Fits.{Fits}
-use Rattle.peer_steps.specs.Judged.{lacks_server, link_judged, set_judged, set_nodes}
+use Rattle.peer_steps.specs.Judged.{lacks_server, link_judged, set_judged, set_nodes, despawn_judged, sight_judged}
 use Rattle.peer_steps.specs.Kept.{Kept, kept_tree, new_peer}
 use Rattle.peer_steps.specs.Stands.{StandsFor}
-use Rattle.scene_model.specs.Valid.{IsValidScene}
 use Rattle.peer_steps.specs.Peers.{Peers, no_peers, comes_judged, peers_after, peer_comes, peer_goes, without_peer}
-use Rattle.peer_steps.specs.Sites.{own_made}
-use Rattle.peer_steps.specs.Sound.{is_sound_spawn}
-use Rattle.peer_steps.specs.Steps.{Taken, unchanged, done_with, row_packet, sent_to, open_rows, up_answer, up_taken, link_taken, spawn_answer, spawn_taken, shows_of, linked_taken, read_taken}
-use Rattle.peer_steps.specs.Track.{Track, no_rows, Spawned, track_after, own_spawn, shown_spawn, tree_without}
-use Rattle.peer_steps.proofs.Fitting.{fits_start, fits_without, fits_set, fits_spawn, fits_shown}
+use Rattle.peer_steps.specs.Sites.{who_at, own_made}
+use Rattle.peer_steps.specs.Sound.{is_sound_spawn, is_sound_read, is_sound_message}
+use Rattle.peer_steps.specs.Steps.{Taken, unchanged, done_with, row_packet, sent_to, up_answer, up_taken, link_taken, track_came, spawn_answer, spawn_taken, shows_of, despawn_answer, despawn_taken, answer_by, shifts, row_shifts, sight_shifts, sight_taken, row_read, message_taken, linked_taken, read_taken}
+use Rattle.peer_steps.specs.Track.{Track, Spawned, Despawned, Sighted, SightChange, first_track, track_after, own_spawn, shown_spawn, hidden_row, tree_without, track_up, track_down, seen_by, shown_of, number_at, row_with, is_row, despawned_by, own_despawn, sighted_by, sight_at, own_sighted}
+use Rattle.peer_steps.proofs.Fitting.{fits_start, fits_without, fits_hidden, fits_despawn, fits_up, fits_down, fits_set, fits_spawn, fits_shown}
 use Rattle.peer_steps.proofs.Clauses.{start_stands}
+use Rattle.spawn_track.specs.Numbers.{IsTracked, row_at}
+use Rattle.spawn_track.proofs.Tracked.{tracked_start, tracked_up, tracked_down, tracked_set, tracked_despawn, tracked_spawn}
+use Rattle.peer_core.specs.declared.messages.RowNews.{RowNews}
+use Rattle.peer_core.specs.declared.messages.RowNews.TheVariants.{Appears}
 use Rattle.peer_core.specs.Forms.{packet_form}
-use Rattle.peer_core.specs.Parts.{parts_kept}
+use Rattle.peer_core.specs.Parts.{AreRight, parts_kept, news_of, own_row, shown_before, row_told}
 
 -- a step of the parts of a peer that isn't spent is one of that peer
 pub by_parts : (f : Kept → Taken) (x : Taken) (k : Kept) (s : Bool) (p : Peers) (t : TreeOf) (r : Track) → parts_kept s p t r ≡ k → k.spent ≡ false → x ≡ f (parts_kept false p t r) → x ≡ f k
@@ -43,8 +52,8 @@ by_parts f x k s p t r is live made = made ∙ ap f (ap (λ b. parts_kept b p t 
 
 -- what is kept with other peers, and with other nodes and own rows
 
-with_peers : (p ps : Peers) (t : TreeOf) (r : Track) → ps.me ≡ p.me → parts_kept false ps t r ≡ record (parts_kept false p t r) { peers = ps }
-with_peers p ps t r same = ap (λ (me : ℤ). record (parts_kept false p t r) { who = record { id = me; scene = t.scene }; peers = ps }) same
+with_peers : (p ps : Peers) (t : TreeOf) (r w v : Track) → ps.me ≡ p.me → w ≡ v → parts_kept false ps t w ≡ record (parts_kept false p t r) { peers = ps; track = v }
+with_peers p ps t r w v same track = ap₂ {C = Kept} (λ (me : ℤ) (x : Track). record (parts_kept false p t r) { who = record { id = me; scene = t.scene }; peers = ps; track = x }) same track
 
 with_nodes : (p : Peers) (t u : TreeOf) (r w : Track) → u.scene ≡ t.scene → parts_kept false p u w ≡ record (parts_kept false p t r) { nodes = u.nodes; track = w }
 with_nodes p t u r w same = ap (λ (s : Scene). record (parts_kept false p t r) { who = record { id = p.me; scene = s }; nodes = u.nodes; track = w }) same
@@ -59,26 +68,48 @@ comes_me b p = by (comes_judged p b)
     by (Some r) = refl
     by None = refl
 
-pub link_is : (p ps : Peers) (t : TreeOf) (r : Track) (b : ℤ) (f : Option Refusal) (o : Outcome) → lacks_server p.me b ≡ false → (f, ps) ≡ peer_comes b p → o ≡ up_answer packet_form (parts_kept false ps t r) b f
-    → record { outcome = o; kept = parts_kept false ps t r } ≡ link_taken packet_form (parts_kept false p t r) b
-link_is p ps t r b f o linked made answer =
+-- to whom rows are shown changes not who sees them
+sees_same : (b : ℤ) (v : RowSight) → row_sees (shown_to_new b v) b ≡ row_sees v b
+sees_same b v = by (row_sees v b)
+  where
+    by : (c : Bool) → row_sees (if c then record v { shown = put_by int_lt b v.shown } else v) b ≡ row_sees v b
+    by true = refl
+    by false = refl
+
+seen_same : (b : ℤ) (rs : List SpawnedRow) (vs : List RowSight) → seen_by b rs (map (shown_to_new b) vs) ≡ seen_by b rs vs
+seen_same b [] vs = refl
+seen_same b (r ∷ rs) [] = refl
+seen_same b (r ∷ rs) (v ∷ vs) = ap₂ (λ c qs. if c then r ∷ qs else qs) (sees_same b v) (seen_same b rs vs)
+
+up_same : (k : Kept) (ps : Peers) (b : ℤ) (f : Option Refusal) → up_answer packet_form (record k { peers = ps; track = track_came f b k.track }) b f ≡ up_answer packet_form k b f
+up_same k ps b (Some r) = refl
+up_same k ps b None = ap (λ rs. done_with (map (λ q. sent_to packet_form b (row_packet k.who.scene k.nodes q)) rs)) (seen_same b k.track.rows k.track.sights.rows)
+
+pub link_is : (p ps : Peers) (t : TreeOf) (r w : Track) (b : ℤ) (f : Option Refusal) (o : Outcome) → lacks_server p.me b ≡ false → (f, ps) ≡ peer_comes b p → w ≡ track_came f b r → o ≡ up_answer packet_form (parts_kept false ps t w) b f
+    → record { outcome = o; kept = parts_kept false ps t w } ≡ link_taken packet_form (parts_kept false p t r) b
+link_is p ps t r w b f o linked made shown answer =
     let k = parts_kept false p t r in
-    let same = with_peers p ps t r (ap (λ (x : Option Refusal × Peers). x.1.me) made ∙ comes_me b p) in
-    ap₂ {C = Taken} (λ (x : Outcome) (j : Kept). record { outcome = x; kept = j }) (answer ∙ ap (λ j. up_answer packet_form j b f) same) same
+    let same = with_peers p ps t r w (track_came f b r) (ap (λ (x : Option Refusal × Peers). x.1.me) made ∙ comes_me b p) shown in
+    ap₂ {C = Taken} (λ (x : Outcome) (j : Kept). record { outcome = x; kept = j }) (answer ∙ ap (λ j. up_answer packet_form j b f) same ∙ up_same k ps b f) same
     ∙ ap (up_taken packet_form k b) made
     ∙ sym (ap (λ c. if c then unchanged k (Refused BadPeer) else up_taken packet_form k b (peer_comes b p)) linked)
 
 -- the packets that show all rows to a peer that came up
-pub up_shown : (k : Kept) (s : Bool) (p : Peers) (t : TreeOf) (r : Track) (b : ℤ) (f : Option Refusal) (shown : List SpawnedRow) (packets : List Out) (o : Outcome) → parts_kept s p t r ≡ k → f ≡ None → shown ≡ r.rows
-    → packets ≡ map (λ q. sent_to packet_form b (row_packet t.scene t.nodes q)) (open_rows t.scene shown) → o ≡ done_with packets → o ≡ up_answer packet_form k b f
-up_shown k s p t r b f shown packets o is none same packed done =
-    done ∙ ap done_with (packed ∙ ap (λ qs. map (λ q. sent_to packet_form b (row_packet t.scene t.nodes q)) (open_rows t.scene qs)) same)
-    ∙ ap₂ (λ j g. up_answer packet_form j b g) is (sym none)
+pub up_shown : (k : Kept) (s : Bool) (p : Peers) (t : TreeOf) (r : Track) (b : ℤ) (f : Option Refusal) (packets : List Out) (o : Outcome) → parts_kept s p t r ≡ k → f ≡ None
+    → packets ≡ map (λ q. sent_to packet_form b (row_packet t.scene t.nodes q)) (seen_by b r.rows r.sights.rows) → o ≡ done_with packets → o ≡ up_answer packet_form k b f
+up_shown k s p t r b f packets o is none packed done = done ∙ ap done_with packed ∙ ap₂ (λ j g. up_answer packet_form j b g) is (sym none)
 
-pub if_linked : (x : Result Outcome OutOfMemory) (k : Kept) (s : Bool) (p ps : Peers) (t : TreeOf) (r : Track) (b : ℤ) (f : Option Refusal) → parts_kept s p t r ≡ k → k.spent ≡ false → lacks_server p.me b ≡ false → (f, ps) ≡ peer_comes b p
-    → IfOk x (λ o. o ≡ up_answer packet_form (parts_kept false ps t r) b f) → IfOk x (λ o. ◌≡◌ {A = Taken} (record { outcome = o; kept = parts_kept false ps t r }) (link_taken packet_form k b))
-if_linked (Ok o) k s p ps t r b f is live linked made answer = by_parts (λ j. link_taken packet_form j b) (record { outcome = o; kept = parts_kept false ps t r }) k s p t r is live (link_is p ps t r b f o linked made answer)
-if_linked (Err e) k s p ps t r b f is live linked made answer = tt
+pub if_linked : (x : Result Outcome OutOfMemory) (k : Kept) (s : Bool) (p ps : Peers) (t : TreeOf) (r w : Track) (b : ℤ) (f : Option Refusal) → parts_kept s p t r ≡ k → k.spent ≡ false → lacks_server p.me b ≡ false → (f, ps) ≡ peer_comes b p → w ≡ track_came f b r
+    → IfOk x (λ o. o ≡ up_answer packet_form (parts_kept false ps t w) b f) → IfOk x (λ o. ◌≡◌ {A = Taken} (record { outcome = o; kept = parts_kept false ps t w }) (link_taken packet_form k b))
+if_linked (Ok o) k s p ps t r w b f is live linked made shown answer = by_parts (λ j. link_taken packet_form j b) (record { outcome = o; kept = parts_kept false ps t w }) k s p t r is live (link_is p ps t r w b f o linked made shown answer)
+if_linked (Err e) k s p ps t r w b f is live linked made shown answer = tt
+
+up_track : (me b : ℤ) (t : TreeOf) (r : Track) (f : Option Refusal) → AreRight me t r → AreRight me t (track_came f b r)
+up_track me b t r (Some e) h = h
+up_track me b t r None h = record { fits = fits_up me b t r h.fits; tracked = tracked_up b r h.tracked }
+
+pub up_right : (p ps : Peers) (t : TreeOf) (r w : Track) (b : ℤ) (f : Option Refusal) → ps.me ≡ p.me → w ≡ track_came f b r → AreRight p.me t r → AreRight ps.me t w
+up_right p ps t r w b f same shown h = subst (λ me. AreRight me t w) (sym same) (subst (λ (x : Track). AreRight p.me t x) (sym shown) (up_track p.me b t r f h))
 
 -- a link that goes down
 
@@ -92,16 +123,46 @@ goes_me b p = by (has_int b p.up)
 pub down_me : (p ps : Peers) (b : ℤ) (c : Bool) → (c, ps) ≡ peer_goes b p → ps.me ≡ p.me
 down_me p ps b c made = ap (λ (x : Bool × Peers). x.1.me) made ∙ goes_me b p
 
-pub down_fits : (p ps : Peers) (t u : TreeOf) (r : Track) (b : ℤ) (c : Bool) → (c, ps) ≡ peer_goes b p → u ≡ tree_without b t → Fits p.me t r → Fits ps.me u r
-down_fits p ps t u r b c made gone fits = subst (λ me. Fits me u r) (sym (down_me p ps b c made)) (subst (λ (v : TreeOf). Fits p.me v r) (sym gone) (fits_without p.me b t r fits))
+pub down_right : (p ps : Peers) (t u : TreeOf) (r w : Track) (b : ℤ) (c : Bool) → (c, ps) ≡ peer_goes b p → u ≡ tree_without b t → w ≡ track_down b r → AreRight p.me t r → AreRight ps.me u w
+down_right p ps t u r w b c made gone left h =
+    subst (λ me. AreRight me u w) (sym (down_me p ps b c made)) (subst (λ (v : TreeOf). AreRight p.me v w) (sym gone) (subst (λ (x : Track). AreRight p.me (tree_without b t) x) (sym left)
+    (record { fits = fits_down p.me b (tree_without b t) r (fits_without p.me b t r h.fits); tracked = tracked_down b r h.tracked })))
+
+pub apart_right : (p ps : Peers) (t : TreeOf) (r : Track) (b : ℤ) (c : Bool) → (c, ps) ≡ peer_goes b p → AreRight p.me t r → AreRight ps.me t r
+apart_right p ps t r b c made h = subst (λ me. AreRight me t r) (sym (down_me p ps b c made)) h
 
 -- an assignment
 
-pub assign_fits : (p : Peers) (t u : TreeOf) (r : Track) (me : ℤ) (path prop : List ℕ) (value : Variant) (f : Option Refusal) → me ≡ p.me → is_sound value ≡ true
-    → f ≡ set_judged (record { id = me; scene = t.scene }) t.nodes path prop value → u ≡ record t { nodes = set_nodes f path prop value t.nodes } → Fits p.me t r → Fits p.me u r
-assign_fits p t u r me path prop value f same sound judged made fits =
-    subst (λ (v : TreeOf). Fits p.me v r) (sym made)
-    (fits_set (record { id = p.me; scene = t.scene }) path prop value t r sound fits f (sym (judged ∙ ap (λ (m : ℤ). set_judged (record { id = m; scene = t.scene }) t.nodes path prop value) same)))
+pub assign_right : (p : Peers) (t u : TreeOf) (r : Track) (me : ℤ) (path prop : List ℕ) (value : Variant) (f : Option Refusal) → me ≡ p.me → is_sound value ≡ true
+    → f ≡ set_judged (record { id = me; scene = t.scene }) t.nodes path prop value → u ≡ record t { nodes = set_nodes f path prop value t.nodes } → AreRight p.me t r → AreRight p.me u r
+assign_right p t u r me path prop value f same sound judged made h = record {
+  fits = subst (λ (v : TreeOf). Fits p.me v r) (sym made)
+      (fits_set (record { id = p.me; scene = t.scene }) path prop value t r sound h.fits f (sym (judged ∙ ap (λ (m : ℤ). set_judged (record { id = m; scene = t.scene }) t.nodes path prop value) same)));
+  tracked = h.tracked;
+}
+
+-- what an operation that is built has
+
+built_scene : (o : SpawnOp) → (is_some o.scene && is_none o.arg) ≡ true → is_right_spawn o ≡ true
+built_scene o h = ap (λ c. c || (is_none o.scene && (is_empty o.sets && is_some o.arg))) h
+
+built_custom : (a b : Bool) → b ≡ true → (a || b) ≡ true
+built_custom true b h = refl
+built_custom false b h = h
+
+pub scene_right : (o : SpawnOp) → (is_some o.scene && is_none o.arg) ≡ true → (is_right_spawn o ≡ true) × (is_sound_argument o.arg ≡ true)
+scene_right o h = (built_scene o h, none_sound o.arg (and_parts (is_some o.scene) (is_none o.arg) h).1)
+  where
+    none_sound : (arg : Option Variant) → is_none arg ≡ true → is_sound_argument arg ≡ true
+    none_sound None k = refl
+    none_sound (Some v) k = absurd (cc k)
+
+pub custom_right : (o : SpawnOp) → (is_none o.scene && (is_empty o.sets && is_some o.arg)) ≡ true → (is_right_spawn o ≡ true) × (list_all (λ (q : Prop). is_sound q.value) o.sets ≡ true)
+custom_right o h = (built_custom (is_some o.scene && is_none o.arg) (is_none o.scene && (is_empty o.sets && is_some o.arg)) h, no_sets o.sets (and_parts (is_empty o.sets) (is_some o.arg) (and_parts (is_none o.scene) (is_empty o.sets && is_some o.arg) h).1).0)
+  where
+    no_sets : (sets : List Prop) → is_empty sets ≡ true → list_all (λ (q : Prop). is_sound q.value) sets ≡ true
+    no_sets [] k = refl
+    no_sets (q ∷ qs) k = absurd (cc k)
 
 -- an own spawn
 
@@ -116,54 +177,151 @@ newest {X} xs x = subst (λ n. slice_get (xs ++ x ∷ []) n ≡ Some x) (sym (co
     count : (ys : List X) → length (ys ++ x ∷ []) - 1 ≡ length ys
     count ys = omega (arith, length-append ys (x ∷ []))
 
-pub shows_newest : (k : Kept) (s : Bool) (p : Peers) (t : TreeOf) (r : Track) (row last : SpawnedRow) (packets : List Out) (o : Outcome) → parts_kept s p t r ≡ k → Some last ≡ Some row
-    → packets ≡ shown_to_each packet_form t.scene t.nodes p.up last → o ≡ done_with packets → o ≡ done_with (shows_of packet_form k row)
-shows_newest k s p t r row last packets o is same shown done =
-    done ∙ ap done_with shown
+pub shows_newest : (k : Kept) (s : Bool) (p : Peers) (t : TreeOf) (r : Track) (row last : SpawnedRow) (shown : List ℤ) (packets : List Out) (o : Outcome) → parts_kept s p t r ≡ k → Some last ≡ Some row → shown ≡ shown_of last.num r.sights
+    → packets ≡ shown_to_each packet_form t.scene t.nodes shown last → o ≡ done_with packets → o ≡ done_with (shows_of packet_form k row)
+shows_newest k s p t r row last shown packets o is same to packed done =
+    done ∙ ap done_with (packed ∙ ap (λ bs. shown_to_each packet_form t.scene t.nodes bs last) to)
     ∙ ap₂ (λ (j : Kept) (x : SpawnedRow). done_with (shows_of packet_form j x)) is (ap (λ x. or_else x last) same)
 
-spawned : (p : Peers) (t u : TreeOf) (r w : Track) (op : SpawnOp) (f : Option Refusal) (o : Outcome) → record { refused = f; track = w; tree = u } ≡ own_spawn p.me op r t
+spawned : (p : Peers) (t u : TreeOf) (r w : Track) (op : SpawnOp) (f : Option Refusal) (o : Outcome) → record { refused = f; track = w; tree = u } ≡ own_spawn p.me p.up op r t
     → o ≡ spawn_answer packet_form (parts_kept false p u w) (own_made p.me t.scene r.next op) f
-    → record { outcome = o; kept = parts_kept false p u w } ≡ spawn_taken packet_form (parts_kept false p t r) op (own_spawn p.me op r t)
+    → record { outcome = o; kept = parts_kept false p u w } ≡ spawn_taken packet_form (parts_kept false p t r) op (own_spawn p.me p.up op r t)
 spawned p t u r w op f o made answer =
     let same = with_nodes p t u r w (ap (λ (s : Spawned). s.tree.scene) made) in
     ap₂ {C = Taken} (λ (x : Outcome) (j : Kept). record { outcome = x; kept = j }) (answer ∙ ap (λ j. spawn_answer packet_form j (own_made p.me t.scene r.next op) f) same) same
     ∙ ap (spawn_taken packet_form (parts_kept false p t r) op) made
 
 -- the row that a spawn makes is the newest
-pub newest_made : (p : Peers) (t u : TreeOf) (r w : Track) (op : SpawnOp) (f : Option Refusal) → record { refused = f; track = w; tree = u } ≡ own_spawn p.me op r t → f ≡ None
+pub newest_made : (p : Peers) (t u : TreeOf) (r w : Track) (op : SpawnOp) (f : Option Refusal) → record { refused = f; track = w; tree = u } ≡ own_spawn p.me p.up op r t → f ≡ None
     → slice_get w.rows (length w.rows - 1) ≡ Some (own_made p.me t.scene r.next op)
 newest_made p t u r w op f made is =
     subst (λ (rows : List SpawnedRow). slice_get rows (length rows - 1) ≡ Some (own_made p.me t.scene r.next op))
-    (sym (ap (λ (s : Spawned). s.track.rows) made ∙ ap (λ g. (track_after p.me t.scene op g r).rows) (sym (ap (λ (s : Spawned). s.refused) made) ∙ is)))
+    (sym (ap (λ (s : Spawned). s.track.rows) made ∙ ap (λ g. (track_after p.me p.up t.scene op g r).rows) (sym (ap (λ (s : Spawned). s.refused) made) ∙ is)))
     (newest r.rows (own_made p.me t.scene r.next op))
 
-pub spawn_is : (p : Peers) (t u : TreeOf) (r w : Track) (op : SpawnOp) (f : Option Refusal) (o : Outcome) → record { refused = f; track = w; tree = u } ≡ own_spawn p.me op r t → f ≡ None
+pub spawn_is : (p : Peers) (t u : TreeOf) (r w : Track) (op : SpawnOp) (f : Option Refusal) (o : Outcome) → record { refused = f; track = w; tree = u } ≡ own_spawn p.me p.up op r t → f ≡ None
     → o ≡ done_with (shows_of packet_form (parts_kept false p u w) (own_made p.me t.scene r.next op))
-    → record { outcome = o; kept = parts_kept false p u w } ≡ spawn_taken packet_form (parts_kept false p t r) op (own_spawn p.me op r t)
+    → record { outcome = o; kept = parts_kept false p u w } ≡ spawn_taken packet_form (parts_kept false p t r) op (own_spawn p.me p.up op r t)
 spawn_is p t u r w op f o made is answer = spawned p t u r w op f o made (answer ∙ sym (ap (spawn_answer packet_form (parts_kept false p u w) (own_made p.me t.scene r.next op)) is))
 
--- the parts fit after an own spawn, and after a received one
+-- a spawn, by the number and the peers that were given
+own_same : (p : Peers) (me : ℤ) (up : List ℤ) (op : SpawnOp) (r : Track) (t : TreeOf) → me ≡ p.me → up ≡ p.up → own_spawn me up op r t ≡ own_spawn p.me p.up op r t
+own_same p me up op r t same ups = ap₂ (λ (m : ℤ) (bs : List ℤ). own_spawn m bs op r t) same ups
 
-pub spawn_fits : (p : Peers) (t u : TreeOf) (r w : Track) (me : ℤ) (op : SpawnOp) (f : Option Refusal) → me ≡ p.me → is_some op.scene ≡ true → list_all (λ (q : Prop). is_sound q.value) op.sets ≡ true
-    → record { refused = f; track = w; tree = u } ≡ own_spawn me op r t → Fits p.me t r → Fits p.me u w
-spawn_fits p t u r w me op f same scene sound made fits =
-    subst (λ (s : Spawned). Fits p.me s.tree s.track) (sym (made ∙ ap (λ (m : ℤ). own_spawn m op r t) same)) (fits_spawn p.me t r op scene sound fits)
+-- the parts are right after an own spawn, and after a received one
 
-pub shown_fits : (p : Peers) (t u : TreeOf) (r : Track) (from : ℤ) (m : SpawnMsg) (f : Option Fault) → int_eq from p.me ≡ false → is_sound_spawn m ≡ true → (f, u) ≡ shown_spawn from m t → Fits p.me t r → Fits p.me u r
-shown_fits p t u r from m f other sound made fits = subst (λ (x : Option Fault × TreeOf). Fits p.me x.1 r) (sym made) (fits_shown p.me from t r m other sound fits)
+pub spawn_right : (p : Peers) (t u : TreeOf) (r w : Track) (me : ℤ) (up : List ℤ) (op : SpawnOp) (f : Option Refusal) → me ≡ p.me → up ≡ p.up → is_right_spawn op ≡ true → list_all (λ (q : Prop). is_sound q.value) op.sets ≡ true → is_sound_argument op.arg ≡ true
+    → record { refused = f; track = w; tree = u } ≡ own_spawn me up op r t → AreRight p.me t r → AreRight p.me u w
+spawn_right p t u r w me up op f same ups right sound argument made h =
+    subst (λ (s : Spawned). AreRight p.me s.tree s.track) (sym (made ∙ own_same p me up op r t same ups))
+    (record { fits = fits_spawn p.me p.up t r op right sound argument h.fits; tracked = tracked_spawn p.me p.up op r t h.tracked })
+
+pub shown_right : (p : Peers) (t u : TreeOf) (r : Track) (from : ℤ) (m : SpawnMsg) (f : Option Fault) → int_eq from p.me ≡ false → is_sound_spawn m ≡ true → (f, u) ≡ shown_spawn from m t → AreRight p.me t r → AreRight p.me u r
+shown_right p t u r from m f other sound made h = record { fits = subst (λ (x : Option Fault × TreeOf). Fits p.me x.1 r) (sym made) (fits_shown p.me from t r m other sound h.fits); tracked = h.tracked }
+
+pub hidden_right : (p : Peers) (t u : TreeOf) (r : Track) (from : ℤ) (net : ℕ) (f : Option Fault) → (f, u) ≡ hidden_row from net t → AreRight p.me t r → AreRight p.me u r
+hidden_right p t u r from net f made h = record { fits = subst (λ (x : Option Fault × TreeOf). Fits p.me x.1 r) (sym made) (fits_hidden p.me from net t r h.fits); tracked = h.tracked }
 
 -- the same of a peer that isn't spent
 
-pub if_spawned : (x : Result Outcome OutOfMemory) (k : Kept) (s : Bool) (p : Peers) (t u : TreeOf) (r w : Track) (me : ℤ) (op : SpawnOp) (f : Option Refusal) → parts_kept s p t r ≡ k → k.spent ≡ false → me ≡ p.me
-    → record { refused = f; track = w; tree = u } ≡ own_spawn me op r t → f ≡ None
+pub if_spawned : (x : Result Outcome OutOfMemory) (k : Kept) (s : Bool) (p : Peers) (t u : TreeOf) (r w : Track) (me : ℤ) (up : List ℤ) (op : SpawnOp) (f : Option Refusal) → parts_kept s p t r ≡ k → k.spent ≡ false → me ≡ p.me → up ≡ p.up
+    → record { refused = f; track = w; tree = u } ≡ own_spawn me up op r t → f ≡ None
     → ((row : SpawnedRow) → slice_get w.rows (length w.rows - 1) ≡ Some row → IfOk x (λ o. o ≡ done_with (shows_of packet_form (parts_kept false p u w) row)))
-    → IfOk x (λ o. ◌≡◌ {A = Taken} (record { outcome = o; kept = parts_kept false p u w }) (spawn_taken packet_form k op (own_spawn k.who.id op k.track (kept_tree k))))
-if_spawned (Ok o) k s p t u r w me op f is live same made none answer =
-    let own = made ∙ ap (λ (m : ℤ). own_spawn m op r t) same in
-    by_parts (λ j. spawn_taken packet_form j op (own_spawn j.who.id op j.track (kept_tree j))) (record { outcome = o; kept = parts_kept false p u w }) k s p t r is live
+    → IfOk x (λ o. ◌≡◌ {A = Taken} (record { outcome = o; kept = parts_kept false p u w }) (spawn_taken packet_form k op (own_spawn k.who.id k.peers.up op k.track (kept_tree k))))
+if_spawned (Ok o) k s p t u r w me up op f is live same ups made none answer =
+    let own = made ∙ own_same p me up op r t same ups in
+    by_parts (λ j. spawn_taken packet_form j op (own_spawn j.who.id j.peers.up op j.track (kept_tree j))) (record { outcome = o; kept = parts_kept false p u w }) k s p t r is live
     (spawn_is p t u r w op f o own none (answer (own_made p.me t.scene r.next op) (newest_made p t u r w op f own none)))
-if_spawned (Err e) k s p t u r w me op f is live same made none answer = tt
+if_spawned (Err e) k s p t u r w me up op f is live same ups made none answer = tt
+
+pub spawn_no : (k : Kept) (s : Bool) (p : Peers) (t u : TreeOf) (r w : Track) (me : ℤ) (up : List ℤ) (op : SpawnOp) (f : Option Refusal) (e : Refusal) → parts_kept s p t r ≡ k → k.spent ≡ false → me ≡ p.me → up ≡ p.up
+    → record { refused = f; track = w; tree = u } ≡ own_spawn me up op r t → f ≡ Some e
+    → ◌≡◌ {A = Taken} (record { outcome = Refused e; kept = parts_kept false p u w }) (spawn_taken packet_form k op (own_spawn k.who.id k.peers.up op k.track (kept_tree k)))
+spawn_no k s p t u r w me up op f e is live same ups made no =
+    by_parts (λ j. spawn_taken packet_form j op (own_spawn j.who.id j.peers.up op j.track (kept_tree j))) (record { outcome = Refused e; kept = parts_kept false p u w }) k s p t r is live
+    (spawned p t u r w op f (Refused e) (made ∙ own_same p me up op r t same ups) (sym (ap (spawn_answer packet_form (parts_kept false p u w) (own_made p.me t.scene r.next op)) no)))
+
+-- an own despawn
+
+despawned_scene : (path : List ℕ) (num : ℕ) (r : Track) (t : TreeOf) (f : Option Refusal) → (despawned_by path num r t f).tree.scene ≡ t.scene
+despawned_scene path num r t (Some e) = refl
+despawned_scene path num r t None = refl
+
+despawned : (p : Peers) (t : TreeOf) (r : Track) (me : ℤ) (path : List ℕ) (d : Despawned) → me ≡ p.me → d ≡ own_despawn me path r t
+    → record { outcome = despawn_answer packet_form d; kept = parts_kept false p d.tree d.track } ≡ despawn_taken packet_form (parts_kept false p t r) (own_despawn p.me path r t)
+despawned p t r me path d own made =
+    let same = made ∙ ap (λ (m : ℤ). own_despawn m path r t) own in
+    let scene = ap (λ (x : Despawned). x.tree.scene) same ∙ despawned_scene path (number_at t.nodes path) r t (despawn_judged (who_at p.me t.scene) t.nodes path) in
+    ap {B = Taken} (λ (j : Kept). record { outcome = despawn_answer packet_form d; kept = j }) (with_nodes p t d.tree r d.track scene)
+    ∙ ap (despawn_taken packet_form (parts_kept false p t r)) same
+
+pub despawn_right : (p : Peers) (t : TreeOf) (r : Track) (me : ℤ) (path : List ℕ) (d : Despawned) → me ≡ p.me → d ≡ own_despawn me path r t → AreRight p.me t r → AreRight p.me d.tree d.track
+despawn_right p t r me path d own made h =
+    subst (λ (x : Despawned). AreRight p.me x.tree x.track) (sym (made ∙ ap (λ (m : ℤ). own_despawn m path r t) own))
+    (record { fits = fits_despawn p.me path t r h.fits; tracked = tracked_despawn p.me path r t h.tracked })
+
+pub despawn_is : (k : Kept) (s : Bool) (p : Peers) (t : TreeOf) (r : Track) (me : ℤ) (path : List ℕ) (d : Despawned) (o : Outcome) → parts_kept s p t r ≡ k → k.spent ≡ false → me ≡ p.me → d ≡ own_despawn me path r t → o ≡ despawn_answer packet_form d
+    → ◌≡◌ {A = Taken} (record { outcome = o; kept = parts_kept false p d.tree d.track }) (despawn_taken packet_form k (own_despawn k.who.id path k.track (kept_tree k)))
+despawn_is k s p t r me path d o is live own made answer =
+    by_parts (λ j. despawn_taken packet_form j (own_despawn j.who.id path j.track (kept_tree j))) (record { outcome = o; kept = parts_kept false p d.tree d.track }) k s p t r is live
+    (ap {B = Taken} (λ (x : Outcome). record { outcome = x; kept = parts_kept false p d.tree d.track }) answer ∙ despawned p t r me path d own made)
+
+-- a setting of visibility
+
+sighted_rows : (up : List ℤ) (path : List ℕ) (n : ℕ) (c : SightChange) (r : Track) (t : TreeOf) (f : Option Refusal) → (sighted_by up path n c r t f).track.rows ≡ r.rows
+sighted_rows up path n c r t (Some e) = refl
+sighted_rows up path n c r t None = refl
+
+-- what is told of a row, by those to which it was shown before
+told_is : (k : Kept) (w : Track) (before : List ℤ) (q : Option SpawnedRow) → before ≡ shown_before k q → row_told packet_form (record k { track = w }) before q ≡ row_shifts packet_form k w.sights q
+told_is k w before None same = refl
+told_is k w before (Some q) same = ap (λ bs. shifts packet_form (row_packet k.who.scene k.nodes q) q.num bs (shown_of q.num w.sights) k.peers.up) same
+
+own_shifts : (k : Kept) (path : List ℕ) (v : Sights) → row_shifts packet_form k v (own_row k path) ≡ sight_shifts packet_form k path v
+own_shifts k path v = by (is_row (live_at k.nodes path))
+  where
+    by : (b : Bool) → row_shifts packet_form k v (option_and_then (λ num. row_with num k.track.rows) (if b then Some (number_at k.nodes path) else None))
+        ≡ (if b then row_shifts packet_form k v (row_with (number_at k.nodes path) k.track.rows) else [])
+    by true = refl
+    by false = refl
+
+sighted : (p : Peers) (t : TreeOf) (r w : Track) (me : ℤ) (up : List ℤ) (path : List ℕ) (n : ℕ) (c : SightChange) (f : Option Refusal) (o : Outcome) → me ≡ p.me → up ≡ p.up
+    → record { refused = f; track = w } ≡ own_sighted me up path n c r t → o ≡ answer_by f (sight_shifts packet_form (parts_kept false p t r) path w.sights)
+    → record { outcome = o; kept = parts_kept false p t w } ≡ sight_taken packet_form (parts_kept false p t r) path (own_sighted p.me p.up path n c r t)
+sighted p t r w me up path n c f o own ups made answer =
+    ap {B = Taken} (λ (x : Outcome). record { outcome = x; kept = parts_kept false p t w }) answer
+    ∙ ap (sight_taken packet_form (parts_kept false p t r) path) (made ∙ ap₂ (λ (m : ℤ) (bs : List ℤ). own_sighted m bs path n c r t) own ups)
+
+pub sight_right : (p : Peers) (t : TreeOf) (r w : Track) (me : ℤ) (up : List ℤ) (path : List ℕ) (n : ℕ) (c : SightChange) (f : Option Refusal) → record { refused = f; track = w } ≡ own_sighted me up path n c r t → AreRight p.me t r → AreRight p.me t w
+sight_right p t r w me up path n c f made h =
+    subst (λ (x : Sighted). AreRight p.me t x.track) (sym made) (right_by (sight_judged (who_at me t.scene) t.nodes path n (some_is c.is_full (sight_at r.sights (live_at t.nodes path) path n))))
+  where
+    right_by : (g : Option Refusal) → AreRight p.me t (sighted_by up path n c r t g).track
+    right_by (Some e) = h
+    right_by None = record {
+      fits = record { valid = h.fits.valid; values = h.fits.values; rows = h.fits.rows; before = h.fits.before };
+      tracked = tracked_set up path n c r t h.tracked;
+    }
+
+pub sight_no : (k : Kept) (s : Bool) (p : Peers) (t : TreeOf) (r w : Track) (me : ℤ) (up : List ℤ) (path : List ℕ) (n : ℕ) (c : SightChange) (f : Option Refusal) (e : Refusal) → parts_kept s p t r ≡ k → k.spent ≡ false → me ≡ p.me → up ≡ p.up
+    → record { refused = f; track = w } ≡ own_sighted me up path n c r t → f ≡ Some e
+    → ◌≡◌ {A = Taken} (record { outcome = Refused e; kept = parts_kept false p t w }) (sight_taken packet_form k path (own_sighted k.who.id k.peers.up path n c k.track (kept_tree k)))
+sight_no k s p t r w me up path n c f e is live own ups made no =
+    by_parts (λ j. sight_taken packet_form j path (own_sighted j.who.id j.peers.up path n c j.track (kept_tree j))) (record { outcome = Refused e; kept = parts_kept false p t w }) k s p t r is live
+    (sighted p t r w me up path n c f (Refused e) own ups made (sym (ap (λ g. answer_by g (sight_shifts packet_form (parts_kept false p t r) path w.sights)) no)))
+
+pub if_sighted : (x : Result Outcome OutOfMemory) (k : Kept) (s : Bool) (p : Peers) (t : TreeOf) (r w : Track) (me : ℤ) (up : List ℤ) (path : List ℕ) (n : ℕ) (c : SightChange) (f : Option Refusal) (before given : List ℤ) → parts_kept s p t r ≡ k → k.spent ≡ false → me ≡ p.me → up ≡ p.up
+    → record { refused = f; track = w } ≡ own_sighted me up path n c r t → f ≡ None → given ≡ before → before ≡ shown_before k (own_row k path)
+    → IfOk x (λ o. o ≡ done_with (row_told packet_form (parts_kept false p t w) given (own_row (parts_kept false p t w) path)))
+    → IfOk x (λ o. ◌≡◌ {A = Taken} (record { outcome = o; kept = parts_kept false p t w }) (sight_taken packet_form k path (own_sighted k.who.id k.peers.up path n c k.track (kept_tree k))))
+if_sighted (Err e) k s p t r w me up path n c f before given is live own ups made none same shown answer = tt
+if_sighted (Ok o) k s p t r w me up path n c f before given is live own ups made none same shown answer =
+    by_parts (λ j. sight_taken packet_form j path (own_sighted j.who.id j.peers.up path n c j.track (kept_tree j))) (record { outcome = o; kept = parts_kept false p t w }) k s p t r is live
+    (sighted p t r w me up path n c f o own ups made
+    (answer
+    ∙ ap₂ (λ bs rows. done_with (row_told packet_form (parts_kept false p t w) bs (row_at t.nodes path rows))) (same ∙ shown ∙ sym (ap (λ (j : Kept). shown_before j (own_row j path)) is)) (ap (λ (x : Sighted). x.track.rows) made ∙ sighted_rows up path n c r t (sight_judged (who_at me t.scene) t.nodes path n (some_is c.is_full (sight_at r.sights (live_at t.nodes path) path n))))
+    ∙ ap done_with (told_is (parts_kept false p t r) w (shown_before (parts_kept false p t r) (own_row (parts_kept false p t r) path)) (own_row (parts_kept false p t r) path) refl ∙ own_shifts (parts_kept false p t r) path w.sights)
+    ∙ sym (ap (λ g. answer_by g (sight_shifts packet_form (parts_kept false p t r) path w.sights)) none)))
 
 -- a received packet
 
@@ -176,12 +334,25 @@ pub if_read : (x : Result Outcome OutOfMemory) (after k : Kept) (from : ℤ) (m 
     → IfOk x (λ o. ◌≡◌ {A = Taken} (record { outcome = o; kept = after }) (linked_taken k from m (link_judged k.peers from))) → IfOk x (λ o. ◌≡◌ {A = Taken} (record { outcome = o; kept = after }) (read_taken k from r))
 if_read x after k from m r is h = if_same x after _ _ (ap (read_taken k from) (sym is)) h
 
+-- what a message says of a row
+
+pub news_sound : (m : Message) (r : Option RowNews) (x : SpawnMsg) → option_map news_of r ≡ row_read m → is_sound_message m ≡ true → r ≡ Some (Appears x) → is_sound_spawn x ≡ true
+news_sound m r x told sound is = ap is_sound_read (sym (ap (option_map news_of) is) ∙ told) ∙ sound
+
+pub message_is : (k : Kept) (from : ℤ) (m : Message) (f : Option Fault) (r : Option RowNews) → f ≡ None → option_map news_of r ≡ row_read m → message_taken k from (option_map news_of r) ≡ linked_taken k from m f
+message_is k from m f r none told = ap (message_taken k from) told ∙ sym (ap (linked_taken k from m) none)
+
+pub if_news : (x : Result Outcome OutOfMemory) (after k : Kept) (from : ℤ) (m : Message) (f : Option Fault) (r : Option RowNews) (t : Taken) → f ≡ None → option_map news_of r ≡ row_read m → message_taken k from (option_map news_of r) ≡ t
+    → IfOk x (λ o. ◌≡◌ {A = Taken} (record { outcome = o; kept = after }) t) → IfOk x (λ o. ◌≡◌ {A = Taken} (record { outcome = o; kept = after }) (linked_taken k from m f))
+if_news x after k from m f r t none told is h = if_same x after _ _ (sym is ∙ message_is k from m f r none told) h
+
 -- a new peer
 
-pub new_fits : (p : Peers) (t : TreeOf) (r : Track) (id : ℤ) (s : Scene) → IsValidScene s → p ≡ no_peers id → t ≡ kept_tree (new_peer s id) → r ≡ no_rows → Fits p.me t r
-new_fits p t r id s valid peers tree track =
-    subst (λ (q : Peers). Fits q.me t r) (sym peers) (subst (λ (u : TreeOf). Fits id u r) (sym tree) (subst (λ (w : Track). Fits id (kept_tree (new_peer s id)) w) (sym track) (fits_start id s valid)))
+pub new_right : (p : Peers) (t : TreeOf) (r : Track) (id : ℤ) (s : Scene) → IsValidScene s → p ≡ no_peers id → t ≡ kept_tree (new_peer s id) → r ≡ first_track s id → AreRight p.me t r
+new_right p t r id s valid peers tree track =
+    subst (λ (q : Peers). AreRight q.me t r) (sym peers) (subst (λ (u : TreeOf). AreRight id u r) (sym tree) (subst (λ (w : Track). AreRight id (kept_tree (new_peer s id)) w) (sym track)
+    (record { fits = fits_start id s valid; tracked = tracked_start s id })))
 
-pub new_stands : (p : Peers) (t : TreeOf) (r : Track) (id : ℤ) (s : Scene) → IsValidScene s → p ≡ no_peers id → t ≡ kept_tree (new_peer s id) → r ≡ no_rows → StandsFor packet_form (parts_kept false p t r) []
+pub new_stands : (p : Peers) (t : TreeOf) (r : Track) (id : ℤ) (s : Scene) → IsValidScene s → p ≡ no_peers id → t ≡ kept_tree (new_peer s id) → r ≡ first_track s id → StandsFor packet_form (parts_kept false p t r) []
 new_stands p t r id s valid peers tree track =
     subst (λ k. StandsFor packet_form k []) (sym (ap₂ (λ (q : Peers) (u : TreeOf). parts_kept false q u r) peers tree ∙ ap (λ (w : Track). parts_kept false (no_peers id) (kept_tree (new_peer s id)) w) track)) (start_stands packet_form s id valid)

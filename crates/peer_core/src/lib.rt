@@ -1,6 +1,7 @@
 //! One peer: what it holds, what it answers to each event, and what it sends.
 //!
-//! Built so far are links, spawns by scene, assignments to properties, and received spawns, over any valid scene.
+//! Built so far are links, spawns by scene and custom ones, despawns, assignments to properties,
+//! settings of visibility, and received spawns and despawns, over any valid scene.
 #![tactic(auto)]
 
 mod effects;

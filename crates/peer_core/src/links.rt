@@ -2,11 +2,13 @@
 ghost use Rattle.std.specs.Prelude.{◌≡◌, false, None, IfOk};
 ghost use Rattle.std.specs.Ordering.{int_eq};
 ghost use Rattle.peer_steps.specs.Peers.{peer_comes};
+ghost use Rattle.peer_steps.specs.Steps.{track_came};
 ghost use Rattle.peer_steps.specs.Judged.{lacks_server as lacks_server_of, link_judged};
 
 use gd_variant::OutOfMemory;
 use relay_sys::{Peers, PeersNo, SERVER};
 use scene_model::{Fault, Refusal};
+use spawn_track::Track;
 
 /// Whether neither of two peers is the server. Each link has the server at one end.
 pub fn lacks_server(one: &i32, other: &i32) -> bool
@@ -15,8 +17,7 @@ pub fn lacks_server(one: &i32, other: &i32) -> bool
     *one != SERVER && *other != SERVER
 }
 
-/// Takes a peer up, or tells why not.
-pub fn come_up(peers: &mut Peers, peer: &i32) -> Result<Option<Refusal>, OutOfMemory>
+fn take_in(peers: &mut Peers, peer: &i32) -> Result<Option<Refusal>, OutOfMemory>
     ensures taken { IfOk result (λ r. (r, peers.new) ≡ peer_comes peer.now peers.old) }
     ensures me { peers.new.me ≡ peers.old.me }
 {
@@ -25,6 +26,25 @@ pub fn come_up(peers: &mut Peers, peer: &i32) -> Result<Option<Refusal>, OutOfMe
         Err(PeersNo::BadPeer) => Ok(Some(Refusal::BadPeer)),
         Err(PeersNo::PeersFull) => Ok(Some(Refusal::PeersFull)),
         Err(PeersNo::OutOfMemory) => Err(OutOfMemory),
+    }
+}
+
+/// Takes a peer up, and shows it the own rows that it may see, or tells why not.
+pub fn come_up(
+    peers: &mut Peers,
+    track: &mut Track,
+    peer: &i32,
+) -> Result<Option<Refusal>, OutOfMemory>
+    ensures taken { IfOk result (λ r. (r, peers.new) ≡ peer_comes peer.now peers.old) }
+    ensures track { IfOk result (λ r. track.new ≡ track_came r peer.now track.old) }
+    ensures me { peers.new.me ≡ peers.old.me }
+{
+    match take_in(peers, peer)? {
+        Some(refusal) => Ok(Some(refusal)),
+        None => {
+            track.peer_up(peer)?;
+            Ok(None)
+        }
     }
 }
 

@@ -1,13 +1,23 @@
 //! What a message is to a peer.
-ghost use Rattle.std.specs.Prelude.{◌≡◌};
-ghost use Rattle.peer_steps.specs.Steps.{spawn_read};
+ghost use Rattle.std.specs.Prelude.{◌≡◌, option_map};
+ghost use Rattle.peer_steps.specs.Steps.{row_read};
+ghost use Rattle.peer_core.specs.Parts.{news_of};
 
 use gd_variant::{Message, Plain};
 use scene_model::SpawnMsg;
 
-/// The spawn that a message is.
-pub fn spawn_in(message: Message) -> Option<SpawnMsg>
-    ensures { result ≡ spawn_read message }
+/// What a message says of a row of its sender.
+#[derive(Drop)]
+pub enum RowNews {
+    /// The row is shown.
+    Appears(SpawnMsg),
+    /// The row with this number is hidden.
+    Disappears(u32),
+}
+
+/// The news of a row that a message is.
+pub fn news_in(message: Message) -> Option<RowNews>
+    ensures { option_map news_of result ≡ row_read message }
 {
     match message {
         Message::Plain(
@@ -20,7 +30,7 @@ pub fn spawn_in(message: Message) -> Option<SpawnMsg>
                 arg,
                 values,
             },
-        ) => Some(SpawnMsg {
+        ) => Some(RowNews::Appears(SpawnMsg {
             scene,
             spawner,
             net,
@@ -28,7 +38,8 @@ pub fn spawn_in(message: Message) -> Option<SpawnMsg>
             name,
             arg,
             values,
-        }),
+        })),
+        Message::Plain(Plain::Despawn { net }) => Some(RowNews::Disappears(net)),
         _ => None,
     }
 }

@@ -33,7 +33,8 @@ pub enum Stop {
     Spent,
 }
 
-/// One peer over any valid scene, made of parts: the other peers, the nodes, and its own rows.
+/// One peer over any valid scene, made of parts: the other peers, the nodes, and its own rows
+/// with who sees them.
 ///
 /// It takes events one after the other. After want of memory it is spent, and says so from then on.
 /// `spent` stands while a part is written, so that a part left half made is never read.
@@ -50,8 +51,7 @@ impl Model for Peer {
     ghost use Rattle.std.specs.Coded.{codes};
     ghost use Rattle.gd_variant.specs.contracts.value.Variant as variant;
     ghost use Rattle.peer_steps.specs.Kept.{Kept};
-    ghost use Rattle.peer_steps.specs.Fits.{Fits};
-    ghost use Rattle.peer_core.specs.Parts.{parts_kept};
+    ghost use Rattle.peer_core.specs.Parts.{AreRight, parts_kept};
 
     ghost Value = { Kept };
 
@@ -59,7 +59,7 @@ impl Model for Peer {
 
     ghost view = { λ p. parts_kept p.spent p.peers p.tree p.track };
 
-    ghost invariant = { λ p. p.spent ≡ false → Fits p.peers.me p.tree p.track };
+    ghost invariant = { λ p. p.spent ≡ false → AreRight p.peers.me p.tree p.track };
 }
 
 impl Peer {
@@ -70,12 +70,13 @@ impl Peer {
         ensures fresh { IfOk result (λ p. p ≡ new_peer scene.now id) }
         ensures stands { IfOk result (λ p. StandsFor packet_form p []) }
     {
+        let track = Track::new(alloc, scene, &id)?;
         let tree = Tree::new(alloc, scene)?;
         Ok(Peer {
             spent: false,
             peers: Peers::new(alloc, id),
             tree,
-            track: Track::new(alloc),
+            track,
         })
     }
 

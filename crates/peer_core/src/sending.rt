@@ -1,5 +1,5 @@
 //! The packets that show rows to other peers.
-ghost use Rattle.std.specs.Prelude.{◌≡◌, ◌∷◌, [], ◌++◌, true, Some, None, map, IfOk, OnOk};
+ghost use Rattle.std.specs.Prelude.{◌≡◌, ◌∷◌, [], ◌++◌, true, Some, None, is_some, map, IfOk, IfSome, OnOk};
 ghost use Rattle.std.specs.List.{list_all};
 ghost use Rattle.gd_variant.specs.Words.{or_else};
 ghost use Rattle.gd_variant.specs.declared.value.Variant.TheVariants.{Nil as nil_value};
@@ -12,8 +12,9 @@ ghost use Rattle.peer_model.specs.Updates.{all_spawn_props};
 ghost use Rattle.headless_tree.specs.Nodes.{value_at};
 ghost use Rattle.peer_laws.specs.Shown.{values_in};
 ghost use Rattle.peer_steps.specs.Rights.{has_right_values, is_right_row};
-ghost use Rattle.peer_steps.specs.Steps.{row_packet, sent_to, open_rows};
-ghost use Rattle.peer_core.specs.Forms.{packet_form};
+ghost use Rattle.peer_steps.specs.Steps.{row_packet, sent_to, shift_to, shifts};
+ghost use Rattle.peer_steps.specs.Track.{seen_by};
+ghost use Rattle.peer_core.specs.Forms.{packet_form, despawn_packet, shown_bytes};
 ghost use Rattle.peer_steps.specs.Calls.{shown_to_each};
 
 use gd_variant::{Bytes, Message, OutOfMemory, Plain, Text, ValueList, Variant};
@@ -21,7 +22,7 @@ use headless_tree::Tree;
 use packet_codec::encode_packet;
 use peer_steps::SpawnedRow;
 use scene_model::{Class, Out, OutList, SyncDef};
-use spawn_track::{is_open, path_id, syncs_of};
+use spawn_track::{Track, copy_argument, path_id, syncs_of};
 use sqlite_items::Items;
 use std::alloc::Global;
 
@@ -76,6 +77,7 @@ fn message_of(alloc: Global, tree: &Tree, row: &SpawnedRow) -> Result<Message, O
     let spawner = path_id(tree, &row.spawner);
     let syncs = Items::from_slice(alloc, row.ids.as_slice())?;
     let name = row.name.try_clone(alloc)?;
+    let arg = copy_argument(alloc, &row.arg)?;
     let values = spawn_values(alloc, tree, &row.path, row.place)?;
     Ok(Message::Plain(Plain::Spawn {
         scene: row.byte,
@@ -83,7 +85,7 @@ fn message_of(alloc: Global, tree: &Tree, row: &SpawnedRow) -> Result<Message, O
         net: row.num,
         syncs,
         name,
-        arg: None,
+        arg,
         values,
     }))
 }
@@ -129,22 +131,23 @@ fn push_shown(
     Ok(())
 }
 
-/// What is shown to a peer whose link came up: all rows that others see.
+/// What is shown to a peer whose link came up: all own rows that it may see.
 pub fn show_all(
     alloc: Global,
     tree: &Tree,
-    rows: &[SpawnedRow],
+    track: &Track,
     peer: &i32,
 ) -> Result<OutList, OutOfMemory>
     requires valid { IsValidScene tree.now.scene }
     requires values { list_all has_right_values tree.now.nodes ≡ true }
-    requires rows { list_all (is_right_row tree.now.scene) rows.now ≡ true }
-    ensures { IfOk result (λ out. out ≡ map (λ r. sent_to packet_form peer.now (row_packet tree.now.scene tree.now.nodes r)) (open_rows tree.now.scene rows.now)) }
+    requires rows { list_all (is_right_row tree.now.scene) track.now.rows ≡ true }
+    ensures { IfOk result (λ out. out ≡ map (λ r. sent_to packet_form peer.now (row_packet tree.now.scene tree.now.nodes r)) (seen_by peer.now track.now.rows track.now.sights.rows)) }
 {
     let mut out = Items::new(alloc);
-    for row in rows {
-        if is_open(tree.scene(), row.place) {
-            push_shown(&mut out, peer, alloc, tree, row)?;
+    let rows = track.rows();
+    for place in 0..rows.len() {
+        if track.sees(place, peer) {
+            push_shown(&mut out, peer, alloc, tree, &rows[place])?;
         }
     }
     Ok(out)
@@ -162,21 +165,129 @@ fn copies(alloc: Global, peers: &[i32], packet: &Bytes) -> Result<OutList, OutOf
     Ok(out)
 }
 
-/// A row's packet for each peer that is up, where others see the row. It is written once.
+/// A row's packet for each peer to which the row is shown. It is written once.
 pub fn show_to_each(
     alloc: Global,
     tree: &Tree,
-    up: &[i32],
+    shown: &[i32],
     row: &SpawnedRow,
 ) -> Result<OutList, OutOfMemory>
     requires valid { IsValidScene tree.now.scene }
     requires values { list_all has_right_values tree.now.nodes ≡ true }
     requires row { is_right_row tree.now.scene row.now ≡ true }
-    ensures { IfOk result (λ out. out ≡ shown_to_each packet_form tree.now.scene tree.now.nodes up.now row.now) }
+    ensures { IfOk result (λ out. out ≡ shown_to_each packet_form tree.now.scene tree.now.nodes shown.now row.now) }
 {
-    if !is_open(tree.scene(), row.place) {
-        return Ok(Items::new(alloc));
-    }
     let packet = packet_of(alloc, tree, row)?;
-    copies(alloc, up, &packet)
+    copies(alloc, shown, &packet)
+}
+
+fn push_hidden(out: &mut OutList, alloc: Global, peer: &i32, num: u32) -> Result<(), OutOfMemory>
+    ensures { OnOk result (out.new ≡ out.old ++ sent_to packet_form peer.now (despawn_packet num) ∷ []) }
+{
+    let bytes = encode_packet(alloc, &Message::Plain(Plain::Despawn { net: num }))?;
+    out.push(parcel(peer, bytes))?;
+    Ok(())
+}
+
+/// The packet that hides a row, for each of these peers.
+pub fn hide_from_each(alloc: Global, num: u32, peers: &[i32]) -> Result<OutList, OutOfMemory>
+    ensures { IfOk result (λ out. out ≡ map (λ b. sent_to packet_form b (despawn_packet num)) peers.now) }
+{
+    let mut out = Items::new(alloc);
+    for peer in peers {
+        push_hidden(&mut out, alloc, peer, num)?;
+    }
+    Ok(out)
+}
+
+/// Writes the packet that shows a row, unless it was written before.
+fn write_once(
+    show: &mut Option<Bytes>,
+    alloc: Global,
+    tree: &Tree,
+    row: &SpawnedRow,
+) -> Result<(), OutOfMemory>
+    requires valid { IsValidScene tree.now.scene }
+    requires values { list_all has_right_values tree.now.nodes ≡ true }
+    requires row { is_right_row tree.now.scene row.now ≡ true }
+    requires show { IfSome show.old (λ b. b ≡ shown_bytes tree.now row.now) }
+    ensures { OnOk result (show.new ≡ Some (shown_bytes tree.now row.now)) }
+{
+    if show.is_none() {
+        *show = Some(packet_of(alloc, tree, row)?);
+    }
+    Ok(())
+}
+
+fn push_copy(
+    out: &mut OutList,
+    alloc: Global,
+    peer: &i32,
+    packet: &Option<Bytes>,
+) -> Result<(), OutOfMemory>
+    requires { is_some packet.now ≡ true }
+    ensures { OnOk result (out.new ≡ out.old ++ record { link = peer.now; to = peer.now; class = Class.Reliable; tick = None; bytes = or_else packet.now [] } ∷ []) }
+{
+    match packet {
+        Some(packet) => {
+            let bytes = Bytes::from_slice(alloc, packet.as_slice())?;
+            out.push(parcel(peer, bytes))?;
+            Ok(())
+        }
+        None => unreachable!(),
+    }
+}
+
+/// What a peer is told of a row that it saw before or not, and sees now or not.
+fn push_shift(
+    out: &mut OutList,
+    show: &mut Option<Bytes>,
+    alloc: Global,
+    tree: &Tree,
+    row: &SpawnedRow,
+    peer: &i32,
+    was: bool,
+    is: bool,
+) -> Result<(), OutOfMemory>
+    requires valid { IsValidScene tree.now.scene }
+    requires values { list_all has_right_values tree.now.nodes ≡ true }
+    requires row { is_right_row tree.now.scene row.now ≡ true }
+    requires show { IfSome show.old (λ b. b ≡ shown_bytes tree.now row.now) }
+    ensures out { OnOk result (out.new ≡ out.old ++ shift_to packet_form (row_packet tree.now.scene tree.now.nodes row.now) row.now.num peer.now was is) }
+    ensures show { OnOk result (IfSome show.new (λ b. b ≡ shown_bytes tree.now row.now)) }
+{
+    if was {
+        if !is {
+            push_hidden(out, alloc, peer, row.num)?;
+        }
+    } else if is {
+        write_once(show, alloc, tree, row)?;
+        push_copy(out, alloc, peer, show)?;
+    }
+    Ok(())
+}
+
+/// What the peers that are up are told of a row, by those to which it was shown before and is shown
+/// now. The packet that shows the row is written at most once.
+pub fn shift_row(
+    alloc: Global,
+    tree: &Tree,
+    row: &SpawnedRow,
+    before: &[i32],
+    after: &[i32],
+    up: &[i32],
+) -> Result<OutList, OutOfMemory>
+    requires valid { IsValidScene tree.now.scene }
+    requires values { list_all has_right_values tree.now.nodes ≡ true }
+    requires row { is_right_row tree.now.scene row.now ≡ true }
+    ensures { IfOk result (λ out. out ≡ shifts packet_form (row_packet tree.now.scene tree.now.nodes row.now) row.now.num before.now after.now up.now) }
+{
+    let mut out = Items::new(alloc);
+    let mut show = None;
+    for peer in up {
+        let was = before.contains(peer);
+        let is = after.contains(peer);
+        push_shift(&mut out, &mut show, alloc, tree, row, peer, was, is)?;
+    }
+    Ok(out)
 }

@@ -3,4 +3,4 @@
 
 mod peers;
 
-pub use peers::{PeerState, Peers, PeersNo, SERVER};
+pub use peers::{PeerState, Peers, PeersNo, SERVER, drop_number, put_number};

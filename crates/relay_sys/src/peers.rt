@@ -70,7 +70,7 @@ fn place_of(up: &[i32], peer: &i32) -> usize
 }
 
 /// Puts a number among those of a list in rising order.
-fn put_number(up: &mut Vec<i32>, peer: &i32) -> Result<(), OutOfMemory>
+pub fn put_number(up: &mut Vec<i32>, peer: &i32) -> Result<(), OutOfMemory>
     ensures ok { OnOk result (up.new.items ≡ put_by int_lt peer.now up.old.items) }
     ensures err { OnErr result (up.new.items ≡ up.old.items) }
 {
@@ -85,8 +85,8 @@ fn is_other(other: &i32, peer: &i32) -> bool
     *other != *peer
 }
 
-/// Takes a number away.
-fn drop_number(up: &mut Vec<i32>, peer: &i32)
+/// Takes a number away from a list.
+pub fn drop_number(up: &mut Vec<i32>, peer: &i32)
     ensures { up.new.items ≡ filter (λ c. not (int_eq c peer.now)) up.old.items }
 {
     up.retain(|other| is_other(other, peer));

@@ -3,3 +3,4 @@ pub mod PlaceLaws
 pub mod RepeatLaws
 pub mod SearchLaws
 pub mod IndexLaws
+pub mod SoundLaws

@@ -5,4 +5,4 @@ mod paths;
 mod places;
 mod validity;
 
-pub use validity::check;
+pub use validity::{check, check_judged};

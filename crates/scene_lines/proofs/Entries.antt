@@ -40,10 +40,10 @@ node_by path auth props methods (role.Spawner s) h k l m n = rw (text_back path 
 node_by path auth props methods (role.Sync s) h k l m n = rw (text_back path h, short_back auth k, l, m, node_sync_back s n) refl
 
 -- whether each value of a node is sound and short
-abbrev short_node : Node → Bool
+abbrev pub short_node : Node → Bool
 short_node n = not (list_any value_long n.props)
 
-abbrev is_right_node : Node → Bool
+abbrev pub is_right_node : Node → Bool
 is_right_node n = is_typed_node n && short_node n
 
 node_back : (n : Node) → is_right_node n ≡ true → node_read (node_data n) ≡ Ok n
@@ -55,12 +55,12 @@ node_back n h =
     let e = and_parts (list_all is_typed_method n.methods) (is_typed_role n.role) d.1 in
     node_by n.path n.auth n.props n.methods n.role b.0 c.0 (props_back n.props d.0 (unnot (list_any value_long n.props) a.1)) (methods_back n.methods e.0) e.1
 
-short_nodes : (s : Scene) → IsValidScene s → list_all short_node s.nodes ≡ true
+pub short_nodes : (s : Scene) → IsValidScene s → list_all short_node s.nodes ≡ true
 short_nodes s v = all_right (node_why s) short_node (λ earlier n h. ap not (right_node s earlier n h).short) [] s.nodes (nodes_right s v)
 
 -- ---- scenes that can be spawned
 
-abbrev short_def : SceneDef → Bool
+abbrev pub short_def : SceneDef → Bool
 short_def d = not (list_any value_long d.props)
 
 abbrev is_right_def : SceneDef → Bool
@@ -80,7 +80,7 @@ def_back d h =
     def_by d b.0 (props_back d.props c.0 (unnot (list_any value_long d.props) a.1)) (methods_back d.methods e.0)
     (list_back scene_sync_read scene_sync_data is_right_sync scene_sync_back d.syncs (both is_typed_sync is_own d.syncs e.1 own.1))
 
-short_defs : (s : Scene) → IsValidScene s → list_all short_def s.scenes ≡ true
+pub short_defs : (s : Scene) → IsValidScene s → list_all short_def s.scenes ≡ true
 short_defs s v = all_right scene_why short_def (λ earlier d h. ap not (right_def earlier d h).short) [] s.scenes (scenes_right s v)
 
 -- ---- the whole

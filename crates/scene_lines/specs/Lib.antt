@@ -1,4 +1,3 @@
 pub mod Laws
-pub mod Texts
 pub mod Typed
 pub mod Written

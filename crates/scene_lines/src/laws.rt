@@ -1,6 +1,5 @@
 //! The laws of scene lines.
-ghost use Rattle.scene_lines.specs.Laws.{ReadsScenes};
-ghost use Rattle.scene_lines.specs.Texts.{ReadsTexts};
+ghost use Rattle.scene_lines.specs.Laws.{ReadsPrinted, ReadsScenes};
 
 /// Of a line that serde_json reads as what is written of a valid scene, the scene is read. (That its
 /// texts are texts, and that numbers and bytes are in their ranges, the scene's types say; that a
@@ -9,8 +8,7 @@ pub fn written_scenes_are_read()
     ensures { ReadsScenes }
 {}
 
-/// What is written of a JSON value is read as that value, where its numbers are integers of 64 bits,
-/// its texts are UTF-8, the keys of each object are in order, and it is at most 127 deep.
-pub fn written_texts_are_read()
-    ensures { ReadsTexts }
+/// The text that is written of a valid scene is read as that scene.
+pub fn printed_scenes_are_read()
+    ensures { ReadsPrinted }
 {}

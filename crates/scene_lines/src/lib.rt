@@ -3,4 +3,4 @@
 
 mod laws;
 
-pub use laws::{written_scenes_are_read, written_texts_are_read};
+pub use laws::{printed_scenes_are_read, written_scenes_are_read};

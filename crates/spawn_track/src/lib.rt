@@ -2,8 +2,11 @@
 //! refused, what a received spawn makes and why it is a fault.
 #![tactic(auto)]
 
+mod despawning;
 mod lookup;
 mod making;
+mod naming;
+mod numbers;
 mod placing;
 mod receiving;
 mod shown;
@@ -11,7 +14,8 @@ mod spawning;
 mod track;
 mod values;
 
-pub use lookup::{is_open, path_id, syncs_of};
+pub use lookup::{path_id, syncs_of};
+pub use making::copy_argument;
 pub use placing::put_value;
-pub use track::Track;
+pub use track::{Gone, Track};
 pub use values::{fits, has_prop, owns};

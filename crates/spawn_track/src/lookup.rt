@@ -1,13 +1,10 @@
 //! What stands in a valid scene, and where.
 ghost use Rattle.std.specs.Prelude.{◌≡◌, ◌<◌, ◌+◌, Some, IfSome, length};
-ghost use Rattle.std.specs.List.{list_any};
 ghost use Rattle.std.specs.Option.{option_copied};
 ghost use Rattle.gd_variant.specs.Words.{or_else};
-ghost use Rattle.scene_model.specs.declared.scene.SyncDef.{SyncDef as SyncDefOf};
 ghost use Rattle.scene_model.specs.Lookup.{fixed_node as fixed_node_of, fixed_path_id, scene_place as scene_place_of, spawner_at as spawner_at_of, spawner_of as spawner_in};
 ghost use Rattle.scene_model.specs.Valid.{IsValidScene};
 ghost use Rattle.peer_model.specs.Rows.{syncs_at};
-ghost use Rattle.peer_laws.specs.Shown.{is_open as is_open_of};
 
 use gd_variant::Text;
 use headless_tree::Tree;
@@ -25,7 +22,8 @@ pub fn path_id(tree: &Tree, path: &Text) -> u32
     }
 }
 
-fn fixed_node<'a>(tree: &'a Tree, path: &Text) -> Option<&'a Node>
+/// The fixed node at a path.
+pub fn fixed_node<'a>(tree: &'a Tree, path: &Text) -> Option<&'a Node>
     ensures { option_copied result ≡ fixed_node_of tree.now.scene path.now }
 {
     match tree.fixed_place(path.as_str()) {
@@ -74,21 +72,5 @@ pub fn syncs_of(scene: &Scene, place: u32) -> &[SyncDef]
     match item_at(scene.scenes.as_slice(), place as usize) {
         Some(def) => def.syncs.as_slice(),
         None => &[],
-    }
-}
-
-fn has_public(defs: &[SyncDef]) -> bool
-    ensures { result ≡ list_any (λ (d : SyncDefOf). d.public) defs.now }
-{
-    defs.iter().any(|def| def.public)
-}
-
-/// Whether a row of the scene at a place is shown to others.
-pub fn is_open(scene: &Scene, place: u32) -> bool
-    ensures { result ≡ is_open_of scene.now place }
-{
-    match syncs_of(scene, place) {
-        [] => true,
-        defs => has_public(defs),
     }
 }

@@ -3,10 +3,12 @@ ghost use Rattle.std.specs.Prelude.{◌≡◌, ◌<◌, true, None, is_some, OnO
 ghost use Rattle.gd_variant.specs.Words.{put_by};
 ghost use Rattle.scene_model.specs.Lookup.{fixed_node};
 ghost use Rattle.scene_model.specs.Paths.{joined};
+ghost use Rattle.peer_model.specs.Refusals.{argument_fits};
 ghost use Rattle.peer_model.specs.Updates.{live_at};
 ghost use Rattle.peer_model.specs.View.{fits as fits_of};
 ghost use Rattle.headless_tree.specs.Nodes.{row_before, spawned_node, assigned};
 ghost use Rattle.headless_tree.specs.Numbers.{are_new};
+ghost use Rattle.peer_steps.specs.Arrivals.{argument_assigned};
 ghost use Rattle.peer_steps.specs.Track.{tree_without};
 
 use gd_variant::{IdList, OutOfMemory, Text, Variant};
@@ -62,6 +64,20 @@ pub fn put_value(tree: &mut Tree, path: &Text, prop: &Text, value: Variant)
     match tree.assign(path.as_str(), prop.as_str(), value) {
         Ok(()) => {}
         Err(_) => {}
+    }
+}
+
+/// Assigns an argument to the property that takes it.
+pub fn put_argument(tree: &mut Tree, path: &Text, prop: &Option<Text>, arg: Option<Variant>)
+    requires { argument_fits arg ≡ true }
+    ensures { tree.new ≡ record tree.old { nodes = argument_assigned path.now prop.now arg tree.old.nodes } }
+{
+    match arg {
+        Some(value) => match prop {
+            Some(prop) => put_value(tree, path, prop, value),
+            None => {}
+        },
+        None => {}
     }
 }
 

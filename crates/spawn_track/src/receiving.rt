@@ -6,18 +6,17 @@ ghost use Rattle.scene_model.specs.Valid.{IsValidScene};
 ghost use Rattle.peer_model.specs.Updates.{shown_node, shown_place, shown_path};
 ghost use Rattle.peer_model.specs.View.{fits as fits_of};
 ghost use Rattle.peer_model.specs.Rows.{syncs_at};
-ghost use Rattle.peer_model.specs.Refusals.{argument_fits};
 ghost use Rattle.headless_tree.specs.Nodes.{row_before};
 ghost use Rattle.peer_laws.specs.Facts.{rows_under};
-ghost use Rattle.peer_steps.specs.Track.{shown_spawn};
+ghost use Rattle.peer_steps.specs.Track.{shown_spawn, hidden_row};
 ghost use Rattle.spawn_track.specs.Judging.{IsJudged};
 ghost use Rattle.peer_steps.specs.Spawns.{shown_judged};
-ghost use Rattle.peer_steps.specs.Arrivals.{IsMaking, place_judged, assigned_all, argument_assigned};
+ghost use Rattle.peer_steps.specs.Arrivals.{IsMaking, place_judged, assigned_all};
 
 use crate::lookup::syncs_of;
-use crate::placing::{NewNode, put_node, put_value};
+use crate::placing::{NewNode, put_argument, put_node, put_value};
 use crate::shown::{judge_ids, judge_place, meaning, plan};
-use gd_variant::{OutOfMemory, Text, ValueList, Variant};
+use gd_variant::{OutOfMemory, Text, ValueList};
 use headless_tree::Tree;
 use peer_steps::Making;
 use scene_model::{Fault, SpawnMsg};
@@ -54,20 +53,6 @@ fn judge_making(tree: &Tree, from: &i32, making: &Making, spawn: &SpawnMsg) -> O
 {
     let defs = syncs_of(tree.scene(), making.place);
     judge_place(tree, from, &making.path, defs, &making.props, spawn)
-}
-
-/// Assigns an argument to the property that takes it.
-fn put_argument(tree: &mut Tree, path: &Text, prop: &Option<Text>, arg: Option<Variant>)
-    requires { argument_fits arg ≡ true }
-    ensures { tree.new ≡ record tree.old { nodes = argument_assigned path.now prop.now arg tree.old.nodes } }
-{
-    match arg {
-        Some(value) => match prop {
-            Some(prop) => put_value(tree, path, prop, value),
-            None => {}
-        },
-        None => {}
-    }
 }
 
 /// Assigns values to properties in order.
@@ -139,5 +124,16 @@ pub fn put_spawn(
             Ok(None)
         }
         Err(fault) => Ok(Some(fault)),
+    }
+}
+
+/// Takes the node of a row of another peer out of the tree, or says why that is a fault.
+pub fn take_row(tree: &mut Tree, from: &i32, net: u32) -> Option<Fault>
+    ensures { (result, tree.new) ≡ hidden_row from.now net tree.old }
+{
+    if tree.remove_row(from, net) {
+        None
+    } else {
+        Some(Fault::NoNet { net })
     }
 }

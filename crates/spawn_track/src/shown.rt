@@ -1,9 +1,10 @@
 //! What a received spawn means in the scene, and why it is a fault.
-ghost use Rattle.std.specs.Prelude.{◌≡◌, ◌<◌, ◌++◌, ◌||◌, [], ◌∷◌, false, Some, None, IfOk, OnOk, MatchResult, find, option_map, is_some, length};
+ghost use Rattle.std.specs.Prelude.{◌≡◌, ◌<◌, ◌++◌, ◌||◌, [], ◌∷◌, false, Some, None, IfOk, OnOk, MatchResult, find, option_map, option_and_then, is_some, length};
 ghost use Rattle.std.specs.List.{list_any, list_all};
 ghost use Rattle.std.specs.Option.{option_copied};
 ghost use Rattle.gd_variant.specs.Words.{has_nat};
 ghost use Rattle.scene_model.specs.declared.scene.CustomDef.{CustomDef as CustomDefOf};
+ghost use Rattle.scene_model.specs.declared.scene.SpawnerDef.{SpawnerDef as SpawnerDefOf};
 ghost use Rattle.scene_model.specs.Lookup.{fixed_node_at};
 ghost use Rattle.scene_model.specs.Valid.{IsValidScene};
 ghost use Rattle.scene_model.specs.Syncs.{spawn_props};
@@ -265,6 +266,16 @@ fn argument_of(alloc: Global, def: &SpawnerDef) -> Result<Option<Text>, OutOfMem
             let name = custom.prop.try_clone(alloc)?;
             Ok(Some(name))
         }
+        None => Ok(None),
+    }
+}
+
+/// The property that takes an argument of a spawner, where there is a spawner.
+pub fn prop_for(alloc: Global, def: Option<&SpawnerDef>) -> Result<Option<Text>, OutOfMemory>
+    ensures { IfOk result (λ name. name ≡ option_map (λ (c : CustomDefOf). c.prop) (option_and_then (λ (d : SpawnerDefOf). d.custom) (option_copied def.entry))) }
+{
+    match def {
+        Some(def) => argument_of(alloc, def),
         None => Ok(None),
     }
 }

@@ -1,5 +1,5 @@
 //! Spawns: where they go, and why they are refused.
-ghost use Rattle.std.specs.Prelude.{◌≡◌, ◌<◌, ◌≤◌, ◌+◌, Option, true, Some, None, is_some, IfOk, IfSome, length, position, option_and_then, ◌&&◌};
+ghost use Rattle.std.specs.Prelude.{◌≡◌, ◌<◌, ◌≤◌, ◌+◌, Option, Some, None, IfOk, IfSome, length, position, option_and_then, ◌&&◌};
 ghost use Rattle.std.specs.List.{list_any};
 ghost use Rattle.std.specs.Option.{option_copied};
 ghost use Rattle.gd_variant.specs.Words.{text_eq, has_text, some_is, or_else, place_of, first_of};
@@ -11,7 +11,7 @@ ghost use Rattle.peer_model.specs.Rows.{syncs_at};
 ghost use Rattle.peer_model.specs.Refusals.{may_make as may_make_of, setting_refusals};
 ghost use Rattle.peer_steps.specs.declared.site.Site.{Site as SiteOf};
 ghost use Rattle.peer_steps.specs.Spawns.{is_at_limit as is_at_limit_of, rows_of_spawner, spawn_judged};
-ghost use Rattle.peer_steps.specs.Sites.{IsSite, byte_in, under_in, spawner_judged, name_judged, room_judged, sets_judged, argument_judged, values_judged, rest_judged, named_judged, props_at};
+ghost use Rattle.peer_steps.specs.Sites.{IsSite, byte_in, under_in, scene_in, spawner_judged, name_judged, room_judged, sets_judged, argument_judged, values_judged, rest_judged, named_judged, props_at};
 
 use crate::lookup::{scene_place, spawner_at, syncs_of};
 use crate::values::{fits, owns};
@@ -260,7 +260,7 @@ fn judge_named(
     }
 }
 
-/// Why a spawn by scene is refused, by where it would go.
+/// Why a spawn is refused, by where it would go.
 pub fn judge_spawn(
     id: &i32,
     tree: &Tree,
@@ -270,7 +270,6 @@ pub fn judge_spawn(
     site: &Site,
 ) -> Option<Refusal>
     requires valid { IsValidScene tree.now.scene }
-    requires scene { is_some op.now.scene ≡ true }
     requires site { IsSite tree.now.scene (spawner_at_of tree.now.scene op.now.spawner) op.now site.now }
     ensures { result ≡ spawn_judged (record { id = id.now; scene = tree.now.scene }) tree.now.nodes rows.now next op.now }
 {
@@ -303,9 +302,25 @@ fn byte_for(name: &Option<Text>, def: Option<&SpawnerDef>) -> u8
     }
 }
 
-fn place_for(tree: &Tree, name: &Option<Text>) -> Option<u32>
+/// The name of the scene that a spawn by a spawner means.
+fn scene_for<'a>(name: &'a Option<Text>, def: Option<&'a SpawnerDef>) -> Option<&'a Text>
+    ensures { option_copied result ≡ scene_in name.now (option_copied def.entry) }
+{
+    match name {
+        Some(name) => Some(name),
+        None => match def {
+            Some(def) => match &def.custom {
+                Some(custom) => Some(&custom.scene),
+                None => None,
+            },
+            None => None,
+        },
+    }
+}
+
+fn place_for(tree: &Tree, name: Option<&Text>) -> Option<u32>
     requires { IsValidScene tree.now.scene }
-    ensures place { result ≡ option_and_then (scene_place_of tree.now.scene) name.now }
+    ensures place { result ≡ option_and_then (scene_place_of tree.now.scene) (option_copied name.entry) }
     ensures within { IfSome result (λ i. i < length tree.now.scene.scenes) }
 {
     match name {
@@ -330,12 +345,12 @@ fn site_with(
     Ok(Site {
         under,
         path,
-        place: place_for(tree, &op.scene),
+        place: place_for(tree, scene_for(&op.scene, def)),
         byte: byte_for(&op.scene, def),
     })
 }
 
-/// Where a spawn by scene would put its node.
+/// Where a spawn would put its node.
 pub fn site_of(alloc: Global, tree: &Tree, op: &SpawnOp) -> Result<Site, OutOfMemory>
     requires { IsValidScene tree.now.scene }
     ensures site { IfOk result (IsSite tree.now.scene (spawner_at_of tree.now.scene op.now.spawner) op.now) }

@@ -13,7 +13,7 @@ use scene_model::{Outcome, Refusal};
 use std::alloc::Global;
 
 impl Peer {
-    /// A link came up: its peer is shown all rows that others see.
+    /// A link came up: its peer is shown all own rows that it may see.
     pub fn take_up(&mut self, alloc: Global, peer: &i32) -> Result<Outcome, OutOfMemory>
         requires { self.old.spent ≡ false }
         ensures taken { IfOk result (λ o. record { outcome = o; kept = self.new } ≡ link_taken packet_form self.old peer.now) }
@@ -24,7 +24,7 @@ impl Peer {
             return Ok(Outcome::Refused(Refusal::BadPeer));
         }
         self.spent = true;
-        let refused = come_up(&mut self.peers, peer)?;
+        let refused = come_up(&mut self.peers, &mut self.track, peer)?;
         self.spent = false;
         self.answer_up(alloc, peer, refused)
     }
@@ -41,13 +41,13 @@ impl Peer {
         match refused {
             Some(refusal) => Ok(Outcome::Refused(refusal)),
             None => {
-                let packets = show_all(alloc, &self.tree, self.track.rows(), peer)?;
+                let packets = show_all(alloc, &self.tree, &self.track, peer)?;
                 Ok(done(alloc, packets))
             }
         }
     }
 
-    /// A link went down: the rows of its peer are gone.
+    /// A link went down: the rows of its peer are gone, and nothing is shown to it.
     pub fn take_down(&mut self, alloc: Global, peer: &i32) -> Outcome
         requires { self.old.spent ≡ false }
         ensures taken { record { outcome = result; kept = self.new } ≡ down_taken self.old peer.now (peer_goes peer.now self.old.peers) }

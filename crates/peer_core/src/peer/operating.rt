@@ -1,24 +1,29 @@
 //! Operations of this peer.
-ghost use Rattle.std.specs.Prelude.{◌≡◌, ◌-◌, true, false, Some, is_some, length, slice_get, IfOk};
+ghost use Rattle.std.specs.Prelude.{◌≡◌, ◌-◌, true, false, Some, length, slice_get, IfOk};
 ghost use Rattle.std.specs.List.{list_all};
 ghost use Rattle.gd_variant.specs.Sound.{is_sound};
 ghost use Rattle.scene_model.specs.declared.scene.Prop.{Prop as PropOf};
 ghost use Rattle.peer_laws.specs.Built.{is_built_op};
 ghost use Rattle.peer_steps.specs.declared.rows.SpawnedRow.{SpawnedRow as RowOf};
+ghost use Rattle.peer_steps.specs.Arguments.{is_right_spawn, is_sound_argument};
 ghost use Rattle.peer_steps.specs.Judged.{set_judged};
 ghost use Rattle.peer_steps.specs.Kept.{kept_tree};
 ghost use Rattle.peer_steps.specs.Sound.{is_sound_op};
-ghost use Rattle.peer_steps.specs.Steps.{op_taken, set_taken, spawn_taken, done_with, shows_of};
-ghost use Rattle.peer_steps.specs.Track.{own_spawn};
+ghost use Rattle.peer_steps.specs.Steps.{op_taken, set_taken, spawn_taken, despawn_taken, sight_taken, done_with, shows_of};
+ghost use Rattle.peer_steps.specs.Track.{own_spawn, own_despawn, own_sighted};
 ghost use Rattle.peer_core.specs.Forms.{packet_form};
+ghost use Rattle.peer_core.specs.Parts.{own_row, row_told, shown_before};
+ghost use Rattle.visibility.specs.Settings.{change_of};
 
 use super::Peer;
 use crate::effects::{done, quiet, refused_or_quiet};
-use crate::sending::show_to_each;
+use crate::sending::{hide_from_each, shift_row, show_to_each};
 use crate::setting::set;
 use gd_variant::{OutOfMemory, Text, Variant};
-use scene_model::{Op, Outcome, Refusal, SpawnOp};
+use scene_model::{Op, Outcome, PeerList, SpawnOp};
+use sqlite_items::Items;
 use std::alloc::Global;
+use visibility::VisSetting;
 
 impl Peer {
     /// An operation. The value of an assignment is copied.
@@ -31,18 +36,29 @@ impl Peer {
     {
         match op {
             Op::Spawn(op) => self.spawn(alloc, op),
+            Op::Custom(op) => self.spawn(alloc, op),
+            Op::Despawn { path } => self.despawn(alloc, path),
+            Op::Public { path, k, on } => {
+                self.set_sight(alloc, path, *k, &VisSetting::Public(*on))
+            }
+            Op::For { path, k, peer, on } => self.set_sight(
+                alloc,
+                path,
+                *k,
+                &VisSetting::For {
+                    peer: *peer,
+                    on: *on,
+                },
+            ),
+            Op::Filter { path, k, peers } => {
+                let peers = Items::from_slice(alloc, peers.as_slice())?;
+                self.set_sight(alloc, path, *k, &VisSetting::Filter(peers))
+            }
             Op::Set { path, prop, value } => {
                 let value = value.try_clone(alloc)?;
                 Ok(self.assign(alloc, path, prop, value))
             }
-            Op::Custom(_)
-            | Op::Despawn { .. }
-            | Op::Public { .. }
-            | Op::For { .. }
-            | Op::Filter { .. }
-            | Op::Call(_)
-            | Op::Raw { .. }
-            | Op::Frame => unreachable!(),
+            Op::Call(_) | Op::Raw { .. } | Op::Frame => unreachable!(),
         }
     }
 
@@ -58,17 +74,20 @@ impl Peer {
         refused_or_quiet(alloc, refused)
     }
 
-    /// A spawn by scene: its row is shown to each peer that is up.
+    /// A spawn by scene or a custom one: its row is shown to the peers that may see it.
     fn spawn(&mut self, alloc: Global, op: &SpawnOp) -> Result<Outcome, OutOfMemory>
         requires live { self.old.spent ≡ false }
-        requires scene { is_some op.now.scene ≡ true }
+        requires right { is_right_spawn op.now ≡ true }
         requires sound { list_all (λ (p : PropOf). is_sound p.value) op.now.sets ≡ true }
-        ensures taken { IfOk result (λ o. record { outcome = o; kept = self.new } ≡ spawn_taken packet_form self.old op.now (own_spawn self.old.who.id op.now self.old.track (kept_tree self.old))) }
+        requires argument { is_sound_argument op.now.arg ≡ true }
+        ensures taken { IfOk result (λ o. record { outcome = o; kept = self.new } ≡ spawn_taken packet_form self.old op.now (own_spawn self.old.who.id self.old.peers.up op.now self.old.track (kept_tree self.old))) }
         ensures same_id { self.new.who.id ≡ self.old.who.id }
     {
         let me = self.peers.me();
         self.spent = true;
-        let refused = self.track.spawn(alloc, &me, &mut self.tree, op)?;
+        let refused = self
+            .track
+            .spawn(alloc, &me, self.peers.up_now(), &mut self.tree, op)?;
         self.spent = false;
         match refused {
             Some(refusal) => Ok(Outcome::Refused(refusal)),
@@ -83,7 +102,95 @@ impl Peer {
     {
         match self.track.rows().last() {
             Some(row) => {
-                let packets = show_to_each(alloc, &self.tree, self.peers.up_now(), row)?;
+                let packets = show_to_each(alloc, &self.tree, self.track.shown(row.num), row)?;
+                Ok(done(alloc, packets))
+            }
+            None => Ok(quiet(alloc)),
+        }
+    }
+
+    /// A despawn: the row is hidden from each peer to which it is shown.
+    fn despawn(&mut self, alloc: Global, path: &Text) -> Result<Outcome, OutOfMemory>
+        requires { self.old.spent ≡ false }
+        ensures taken { IfOk result (λ o. record { outcome = o; kept = self.new } ≡ despawn_taken packet_form self.old (own_despawn self.old.who.id path.now self.old.track (kept_tree self.old))) }
+        ensures same_id { self.new.who.id ≡ self.old.who.id }
+    {
+        let me = self.peers.me();
+        match self.track.despawn(alloc, &me, &mut self.tree, path) {
+            Ok(gone) => {
+                let packets = hide_from_each(alloc, gone.num, gone.shown.as_slice())?;
+                Ok(done(alloc, packets))
+            }
+            Err(refusal) => Ok(Outcome::Refused(refusal)),
+        }
+    }
+
+    /// A setting of visibility: of an own row, each peer is told what it sees otherwise than before.
+    fn set_sight(
+        &mut self,
+        alloc: Global,
+        path: &Text,
+        k: u32,
+        setting: &VisSetting,
+    ) -> Result<Outcome, OutOfMemory>
+        requires { self.old.spent ≡ false }
+        ensures taken { IfOk result (λ o. record { outcome = o; kept = self.new } ≡ sight_taken packet_form self.old path.now (own_sighted self.old.who.id self.old.peers.up path.now k (change_of setting.now) self.old.track (kept_tree self.old))) }
+        ensures same_id { self.new.who.id ≡ self.old.who.id }
+    {
+        let me = self.peers.me();
+        let before = self.shown_at(alloc, path)?;
+        self.spent = true;
+        let refused = self.track.set(
+            alloc,
+            &me,
+            self.peers.up_now(),
+            &self.tree,
+            path,
+            k,
+            setting,
+        )?;
+        self.spent = false;
+        match refused {
+            Some(refusal) => Ok(Outcome::Refused(refusal)),
+            None => self.tell_shifts(alloc, path, before.as_slice()),
+        }
+    }
+
+    /// The peers to which the own row at a path is shown.
+    fn shown_at(&self, alloc: Global, path: &Text) -> Result<PeerList, OutOfMemory>
+        requires { self.now.spent ≡ false }
+        ensures { IfOk result (λ shown. shown ≡ shown_before self.now (own_row self.now path.now)) }
+    {
+        match self.track.row_at(&self.tree, path) {
+            Some(row) => {
+                let shown = Items::from_slice(alloc, self.track.shown(row.num))?;
+                Ok(shown)
+            }
+            None => Ok(Items::new(alloc)),
+        }
+    }
+
+    /// What the peers are told of the own row at a path, by those to which it was shown before.
+    fn tell_shifts(
+        &self,
+        alloc: Global,
+        path: &Text,
+        before: &[i32],
+    ) -> Result<Outcome, OutOfMemory>
+        requires { self.now.spent ≡ false }
+        ensures { IfOk result (λ o. o ≡ done_with (row_told packet_form self.now before.now (own_row self.now path.now))) }
+    {
+        match self.track.row_at(&self.tree, path) {
+            Some(row) => {
+                let after = self.track.shown(row.num);
+                let packets = shift_row(
+                    alloc,
+                    &self.tree,
+                    row,
+                    before,
+                    after,
+                    self.peers.up_now(),
+                )?;
                 Ok(done(alloc, packets))
             }
             None => Ok(quiet(alloc)),

@@ -6,12 +6,12 @@ ghost use Rattle.peer_steps.specs.Judged.{link_judged};
 ghost use Rattle.peer_steps.specs.Kept.{kept_tree};
 ghost use Rattle.peer_steps.specs.Sound.{is_sound_message, is_sound_spawn};
 ghost use Rattle.peer_steps.specs.Steps.{linked_taken, read_taken, shown_taken};
-ghost use Rattle.peer_steps.specs.Track.{shown_spawn};
+ghost use Rattle.peer_steps.specs.Track.{shown_spawn, hidden_row};
 
 use super::Peer;
 use crate::effects::fault_or_quiet;
 use crate::links::judge_link;
-use crate::messages::spawn_in;
+use crate::messages::{RowNews, news_in};
 use gd_variant::{Message, OutOfMemory};
 use packet_codec::{CodecStop, decode_packet};
 use scene_model::{Fault, Outcome, SpawnMsg};
@@ -53,8 +53,9 @@ impl Peer {
         if let Some(fault) = judge_link(&self.peers, from) {
             return Ok(Outcome::Fault(fault));
         }
-        match spawn_in(message) {
-            Some(spawn) => self.take_spawn(alloc, from, spawn),
+        match news_in(message) {
+            Some(RowNews::Appears(spawn)) => self.take_spawn(alloc, from, spawn),
+            Some(RowNews::Disappears(net)) => Ok(self.take_despawn(alloc, from, net)),
             None => Ok(Outcome::Fault(Fault::NotBuilt)),
         }
     }
@@ -76,5 +77,15 @@ impl Peer {
         let fault = self.track.apply_spawn(alloc, &mut self.tree, from, spawn)?;
         self.spent = false;
         Ok(fault_or_quiet(alloc, fault))
+    }
+
+    /// A despawn from a link that is up.
+    fn take_despawn(&mut self, alloc: Global, from: &i32, net: u32) -> Outcome
+        requires { self.old.spent ≡ false }
+        ensures taken { record { outcome = result; kept = self.new } ≡ shown_taken self.old (hidden_row from.now net (kept_tree self.old)) }
+        ensures same_id { self.new.who.id ≡ self.old.who.id }
+    {
+        let fault = self.track.apply_despawn(&mut self.tree, from, net);
+        fault_or_quiet(alloc, fault)
     }
 }

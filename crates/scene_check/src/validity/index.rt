@@ -17,10 +17,12 @@ use crate::validity::props::shares_synced;
 use scene_model::{Node, Role, Scene, SceneDef, SyncDef, bytes_of, same_bytes};
 use sqlite_items::at as item_at;
 
-/// A scene, and the places of the texts of its first nodes and scenes.
+/// A scene, and the places of the texts of its first nodes and scenes; whether its default values are known
+/// to be sound.
 #[derive(Clone, Copy)]
 pub struct SceneIndex<'s, 'a> {
     pub scene: &'a Scene,
+    pub judged: bool,
     pub paths: &'s [Place<'a>],
     pub unders: &'s [Place<'a>],
     pub targets: &'s [Place<'a>],

@@ -1,5 +1,5 @@
 //! What can be wrong with a fixed node.
-ghost use Rattle.std.specs.Prelude.{◌≡◌, ◌≤◌, ◌||◌, not, length, take, nat_lt, nat_le, is_none};
+ghost use Rattle.std.specs.Prelude.{◌≡◌, ◌≤◌, ◌||◌, true, not, length, take, nat_lt, nat_le, is_none};
 ghost use Rattle.std.specs.Ordering.{int_eq};
 ghost use Rattle.std.specs.Option.{option_copied};
 ghost use Rattle.std.specs.List.{list_any};
@@ -10,6 +10,7 @@ ghost use Rattle.scene_model.specs.declared.scene.SpawnerDef.{SpawnerDef as Spaw
 ghost use Rattle.scene_model.specs.declared.scene.SyncDef.{SyncDef as SyncDefOf};
 ghost use Rattle.scene_model.specs.Lookup.{fixed_node, scene_named as scene_named_of, spawner_of as spawner_in, sync_of as sync_in};
 ghost use Rattle.scene_check.specs.Index.{IsIndexed};
+ghost use Rattle.scene_check.specs.Judged.{node_is_sound};
 ghost use Rattle.scene_model.specs.Valid.{has_twice, synced, synced_before, names_no_prop as no_prop_of, parent_missing as parent_missing_of, path_wrong as path_wrong_of, node_prop_twice, node_no_prop, custom_prop_missing, count_on_change as on_change_count, no_target as no_target_of, under_shared as under_shared_of, no_scene as no_scene_of, auth_wrong as auth_wrong_of, node_why as node_why_of, most_entries};
 
 use crate::paths::{has_names, parent_of};
@@ -264,6 +265,7 @@ pub fn node_why<'a>(
     requires indexed { IsIndexed index.now }
     requires front { at ≤ 4096 }
     requires within { at ≤ length index.now.scene.now.nodes }
+    requires sound { index.now.judged ≡ true → node_is_sound node.now ≡ true }
     ensures { result ≡ node_why_of index.now.scene.now (take at index.now.scene.now.nodes, node.now) }
 {
     if path_wrong(index, at, node) {
@@ -299,7 +301,7 @@ pub fn node_why<'a>(
     if are_wrong(node.props.as_slice(), node.methods.as_slice(), places) {
         return Some(SceneWhy::Method);
     }
-    if has_long_value(node.props.as_slice()) {
+    if has_long_value(index.judged, node.props.as_slice()) {
         return Some(SceneWhy::ValueLong);
     }
     if has_wrong_auth(index, node) {

@@ -1,12 +1,14 @@
 //! Properties, and the properties of synchronizers.
-ghost use Rattle.std.specs.Prelude.{◌≡◌, not, map, flat_map, filter, length};
-ghost use Rattle.std.specs.List.{list_any};
+ghost use Rattle.std.specs.Prelude.{◌≡◌, true, not, map, flat_map, filter, length};
+ghost use Rattle.std.specs.List.{list_all, list_any};
 ghost use Rattle.gd_variant.specs.Words.{has_text, text_eq};
 ghost use Rattle.scene_model.specs.declared.scene.SyncProp.{SyncProp as SyncPropOf};
 ghost use Rattle.scene_model.specs.declared.scene.Prop.{Prop as PropOf};
+ghost use Rattle.scene_model.specs.Limits.{is_long as is_long_of};
 ghost use Rattle.scene_model.specs.Lookup.{has_prop as has_prop_of, prop_names};
 ghost use Rattle.scene_model.specs.Syncs.{is_on_change};
 ghost use Rattle.scene_model.specs.Valid.{has_twice, synced, count_on_change as on_change_count, names_no_prop as no_prop_of, shares_prop, value_long};
+ghost use Rattle.scene_check.specs.Judged.{has_sound_value};
 
 use gd_variant::is_sound;
 use scene_model::{Prop, ReplMode, SyncDef, SyncProp, bytes_of, is_long, same_bytes};
@@ -47,11 +49,35 @@ fn is_wrong(prop: &Prop) -> bool
     !is_sound(&prop.value)
 }
 
-/// Whether a default value isn't sound or is too long.
-pub fn has_long_value(props: &[Prop]) -> bool
+fn is_long_value(prop: &Prop) -> bool
+    ensures { result ≡ is_long_of prop.now.value }
+{
+    is_long(&prop.value)
+}
+
+fn any_is_long(props: &[Prop]) -> bool
+    ensures { result ≡ list_any (λ (p : PropOf). is_long_of p.value) props.now }
+{
+    props.iter().any(is_long_value)
+}
+
+fn any_is_wrong(props: &[Prop]) -> bool
     ensures { result ≡ list_any value_long props.now }
 {
     props.iter().any(is_wrong)
+}
+
+/// Whether a default value isn't sound or is too long. Of values that are known to be sound no keys are
+/// compared.
+pub fn has_long_value(judged: bool, props: &[Prop]) -> bool
+    requires { judged ≡ true → list_all has_sound_value props.now ≡ true }
+    ensures { result ≡ list_any value_long props.now }
+{
+    if judged {
+        any_is_long(props)
+    } else {
+        any_is_wrong(props)
+    }
 }
 
 fn is_listed(props: &[SyncProp], name: &[u8]) -> bool

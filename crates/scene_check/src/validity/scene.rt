@@ -1,9 +1,10 @@
 //! What can be wrong with a scene that can be spawned.
-ghost use Rattle.std.specs.Prelude.{◌≡◌, ◌≤◌, ◌||◌, length, take, nat_lt, nat_le, flat_map};
+ghost use Rattle.std.specs.Prelude.{◌≡◌, ◌≤◌, ◌||◌, true, length, take, nat_lt, nat_le, flat_map};
 ghost use Rattle.std.specs.List.{list_any};
 ghost use Rattle.scene_model.specs.declared.scene.SyncDef.{SyncDef as SyncDefOf};
 ghost use Rattle.scene_model.specs.Lookup.{prop_names};
 ghost use Rattle.scene_check.specs.Index.{IsIndexed};
+ghost use Rattle.scene_check.specs.Judged.{def_is_sound};
 ghost use Rattle.scene_model.specs.Valid.{has_twice, synced, names_no_prop as no_prop_of, count_on_change as on_change_count, most_entries, scene_why as scene_why_of};
 
 use crate::places::{MOST_ENTRIES, Places};
@@ -57,6 +58,7 @@ pub fn scene_why<'a>(
     requires indexed { IsIndexed index.now }
     requires front { at ≤ 4096 }
     requires within { at ≤ length index.now.scene.now.scenes }
+    requires sound { index.now.judged ≡ true → def_is_sound def.now ≡ true }
     ensures { result ≡ scene_why_of (take at index.now.scene.now.scenes, def.now) }
 {
     if !is_name(bytes_of(&def.name)) {
@@ -80,7 +82,7 @@ pub fn scene_why<'a>(
     if are_wrong(def.props.as_slice(), def.methods.as_slice(), places) {
         return Some(SceneWhy::Method);
     }
-    if has_long_value(def.props.as_slice()) {
+    if has_long_value(index.judged, def.props.as_slice()) {
         return Some(SceneWhy::ValueLong);
     }
     None

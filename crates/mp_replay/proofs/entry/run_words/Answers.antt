@@ -10,6 +10,8 @@ returns-in-Ok g c =
       untouched = λ h. ap (λ k. stream (g.K.Sink.held k) (g.K.Sink.faults k)) (c.run.ensures.untouched h).1;
       replay_ends = c.run.ensures.ends;
       replays = c.run.ensures.output;
+      rerun_ends = c.run.ensures.rerun_ends;
+      reruns = c.run.ensures.rerun_output;
       show_ends = c.run.ensures.show_ends;
       shows = c.run.ensures.show_output;
     })

@@ -3,7 +3,16 @@ use Rattle.gd_variant.specs.Words.{with_earlier}
 use Rattle.scene_model.specs.declared.scene.Node.{Node}
 use Rattle.scene_model.specs.Valid.{first_bad, node_why}
 use Rattle.scene_model.proofs.EntryLaws.{bad_here, right_more, node_is_early}
+use Rattle.scene_check.specs.Judged.{node_is_sound}
+use Rattle.scene_check.proofs.SoundLaws.{passes_at}
 use Rattle.scene_check.proofs.validity.node_bad.Goals as goal
+
+pub node_why-requires-clause-sound : goal.node_why-requires-clause-sound
+node_why-requires-clause-sound c =
+    let s = c.args.index.now.scene.now in
+    let low = subst (λ (ns : List Node). c.loop-at.at < length ns) c.as_slice-nodes.ensures c.loop-at-test.true in
+    let is = c.index-nodes-at.is ∙ ap (λ (ns : List Node). get_or ns c.loop-at.at c.index-nodes-at.result) c.as_slice-nodes.ensures in
+    λ judged. passes_at node_is_sound s.nodes c.loop-at.at c.index-nodes-at.result low is (c.requires.sound judged).nodes
 
 pub returns-in-Some : goal.returns-in-Some
 returns-in-Some c =

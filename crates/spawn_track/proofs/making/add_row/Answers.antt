@@ -18,6 +18,9 @@ put_node-requires-clause-free c = made_free (who_at c.args.id.now c.args.tree.no
 pub returns-clause-row : goal.returns-clause-row
 returns-clause-row c = made_is c.args.id.now c.args.tree.now.scene c.args.tree.now.nodes c.args.num c.args.op.now c.args.site.now c.in_ok-row.row c.requires (row_told c.args.tree.now.scene c.scene.result.now c.args.num c.args.op.now c.args.site.now c.in_ok-row.row c.scene.ensures c.in_ok-row.ensures)
 
+pub put_own_argument-requires : goal.put_own_argument-requires
+put_own_argument-requires c = c.requires.welcome.argument
+
 pub returns-clause-tree : goal.returns-clause-tree
-returns-clause-tree c = added_tree c.args.id.now c.args.tree.now c.put_node.new.tree c.put_sets.new.tree c.args.num c.args.op.now c.args.site.now c.in_ok-row.row c.as_slice.result.now c.requires
-    (row_told c.args.tree.now.scene c.scene.result.now c.args.num c.args.op.now c.args.site.now c.in_ok-row.row c.scene.ensures c.in_ok-row.ensures) c.in_ok-put_node.ensures.ok c.in_ok-put_sets.ensures c.as_slice.ensures
+returns-clause-tree c = added_tree c.args.id.now c.args.tree.now c.put_node.new.tree c.put_own_argument.new.tree c.put_sets.new.tree c.args.num c.args.op.now c.args.site.now c.in_ok-row.row c.as_slice.result.now c.requires
+    (row_told c.args.tree.now.scene c.scene.result.now c.args.num c.args.op.now c.args.site.now c.in_ok-row.row c.scene.ensures c.in_ok-row.ensures) c.in_ok-put_node.ensures.ok (c.in_ok-put_own_argument.ensures c.args.id.now) c.in_ok-put_sets.ensures c.as_slice.ensures

@@ -1,0 +1,2 @@
+pub mod GivenOps
+pub mod Happened

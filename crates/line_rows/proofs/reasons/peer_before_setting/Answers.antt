@@ -1,0 +1,7 @@
+use Rattle.std.proofs.Common.{refl}
+use Rattle.line_rows.proofs.OnLiterals.{lines_on_literals}
+use Rattle.line_rows.proofs.reasons.peer_before_setting.Goals as goal
+
+pub returns : goal.returns
+unfolding lines_on_literals
+returns c = refl
