@@ -19,16 +19,17 @@ abbrev pub line_end : ℕ → LineStop → Status
 line_end n (stop.LineBad why) = status.BadLine n why
 line_end n stop.OutOfMemory = status.OutOfMemory
 
--- How a run may end, by the reasons for which a line may stop it and by how it ends without any line: a fault comes only where the count of the source or of the sink rose from the first number to the second.
-abbrev pub MayEnd : (LineWhy → Type 0) → ℕ → ℕ → ℕ → ℕ → Status → Type 0
-MayEnd reasons source later sink after status.Done = Unit {0}
-MayEnd reasons source later sink after (status.BadLine n reason) = reasons reason
-MayEnd reasons source later sink after (status.LineLong n) = Unit {0}
-MayEnd reasons source later sink after status.InputLong = Unit {0}
-MayEnd reasons source later sink after status.ReadFault = Rose source later
-MayEnd reasons source later sink after status.WriteFault = Rose sink after
-MayEnd reasons source later sink after status.OutOfMemory = Unit {0}
-MayEnd reasons source later sink after s = ⊥
+-- How a run may end, by the reasons for which a line may stop it, by whether it may end for want of room, and by how it ends without any line: a fault comes only where the count of the source or of the sink rose from the first number to the second.
+abbrev pub MayEnd : (LineWhy → Type 0) → Type 0 → ℕ → ℕ → ℕ → ℕ → Status → Type 0
+MayEnd reasons fills source later sink after status.Done = Unit {0}
+MayEnd reasons fills source later sink after (status.BadLine n reason) = reasons reason
+MayEnd reasons fills source later sink after (status.PoolFull n) = fills
+MayEnd reasons fills source later sink after (status.LineLong n) = Unit {0}
+MayEnd reasons fills source later sink after status.InputLong = Unit {0}
+MayEnd reasons fills source later sink after status.ReadFault = Rose source later
+MayEnd reasons fills source later sink after status.WriteFault = Rose sink after
+MayEnd reasons fills source later sink after status.OutOfMemory = Unit {0}
+MayEnd reasons fills source later sink after s = ⊥
 
 -- a write failed
 abbrev pub IsWriteFault : ℕ → ℕ → Status → Type 0

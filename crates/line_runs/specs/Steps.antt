@@ -65,9 +65,9 @@ TakesLine n given last old (Err status.OutOfMemory) new taken = new ≡ old
 TakesLine n given last old (Err s) new taken = ⊥
 
 -- how a run may end at a line
-abbrev pub MayStep : (LineWhy → Type 0) → ℕ → ℕ → Step → Type 0
-MayStep reasons source later (Goes left) = Unit {0}
-MayStep reasons source later (Ends s) = MayEnd reasons source later 0 0 s
+abbrev pub MayStep : (LineWhy → Type 0) → Type 0 → ℕ → ℕ → Step → Type 0
+MayStep reasons fills source later (Goes left) = Unit {0}
+MayStep reasons fills source later (Ends s) = MayEnd reasons fills source later 0 0 s
 
 -- fewer bytes are judged behind a line than from it on
 abbrev pub IsShorter : ℕ → Step → Type 0

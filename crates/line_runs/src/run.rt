@@ -110,7 +110,7 @@ fn take_text<T: LineTaker>(
     line: &[u8],
     text: &mut Vec<u8>,
 ) -> Result<Behind, Status>
-    ensures ends { IfErr result (MayEnd T.reasons 0 0 0 0) }
+    ensures ends { IfErr result (MayEnd T.reasons T.fills 0 0 0 0) }
     ensures takes { (ls : List (List ℕ)) → T.took taker.old ls → n ≡ next_number ls → TakesLine n (T.command.told ls line.now) (T.command.is_last ls line.now) text.old.items result text.new.items (T.took taker.new (line.now ∷ ls)) }
 {
     let before = text.len();
@@ -125,7 +125,7 @@ fn take_text<T: LineTaker>(
 
 /// Ends a run in place of line `n`.
 fn close<T: LineTaker>(alloc: Global, taker: &mut T, n: u64, text: &mut Vec<u8>) -> Status
-    ensures ends { MayEnd T.reasons 0 0 0 0 result }
+    ensures ends { MayEnd T.reasons T.fills 0 0 0 0 result }
     ensures closes { (ls : List (List ℕ)) → T.took taker.old ls → n ≡ next_number ls → EndsAs (T.command.closing ls) text.old.items result (Some text.new.items) }
 {
     let before = text.len();
@@ -148,7 +148,7 @@ fn take_line<T: LineTaker>(
     text: &mut Vec<u8>,
 ) -> Step
     requires { n + judged ≤ 2 ^ 32 }
-    ensures ends { MayStep T.reasons 0 0 result }
+    ensures ends { MayStep T.reasons T.fills 0 0 result }
     ensures shorter { IsShorter judged result }
     ensures steps { (longest : ℕ) (ls : List (List ℕ)) (bytes rest : List ℕ) → T.took taker.old ls → n ≡ next_number ls → first_line longest bytes ≡ a_line line.now rest → Steps T.command (T.took taker.new) T.known longest judged ls bytes text.old.items result text.new.items (Some rest) }
 {
@@ -172,7 +172,7 @@ fn take_last<T: LineTaker>(
     text: &mut Vec<u8>,
 ) -> Status
     requires { n + judged ≤ 2 ^ 32 }
-    ensures ends { MayEnd T.reasons 0 0 0 0 result }
+    ensures ends { MayEnd T.reasons T.fills 0 0 0 0 result }
     ensures last { (longest : ℕ) (ls : List (List ℕ)) (bytes : List ℕ) → T.took taker.old ls → n ≡ next_number ls → first_line longest bytes ≡ last_line line.now → StepEnds T.known T.command longest judged ls bytes text.old.items result text.new.items }
 {
     if line.len() > judged {
@@ -206,7 +206,7 @@ fn take_next<T: LineTaker, S: Source>(
 ) -> Step
     requires { IsOpen run.old.reader → run.old.text.items ≡ [] }
     ensures reads { S.faults source.old ≤ S.faults source.new }
-    ensures ends { MayStep T.reasons (S.faults source.old) (S.faults source.new) result }
+    ensures ends { MayStep T.reasons T.fills (S.faults source.old) (S.faults source.new) result }
     ensures shorter { IsShorter run.old.judged result }
     ensures stays { (run.new.n ≡ run.old.n) × (run.new.judged ≡ run.old.judged) × (run.new.longest ≡ run.old.longest) }
     ensures steps { (ls : List (List ℕ)) (bytes : List ℕ) → T.took taker.old ls → run.old.n ≡ next_number ls → unread run.old.reader (S.left source.old) ≡ Some bytes → Steps T.command (T.took taker.new) T.known run.old.longest run.old.judged ls bytes run.old.text.items result run.new.text.items (unread run.new.reader (S.left source.new)) }
@@ -252,6 +252,7 @@ fn write_waiting<K: Sink>(run: &mut Run, sink: &mut K) -> Option<Status>
 /// - `Done`: the input was read to its end, or to a line that ends it, and all that its lines and its end
 ///   give was written.
 /// - `BadLine`: the first line that stops the run, by its number, isn't in the command's grammar.
+/// - `PoolFull`: the command ends the input at a line for want of room, by its number.
 /// - `LineLong`: the first line that stops the run, by its number, has more than `longest` bytes.
 /// - `InputLong`: the input is longer than `limit` bytes, and no line stops the run or ends the input.
 /// - `ReadFault`, `WriteFault`: the source or the sink failed in this call.
@@ -267,7 +268,7 @@ pub fn run_lines<T: LineTaker, S: Source, K: Sink>(
     source: &mut S,
     sink: &mut K,
 ) -> Status
-    ensures ends { MayEnd T.reasons (S.faults source.old) (S.faults source.new) (K.faults sink.old) (K.faults sink.new) result }
+    ensures ends { MayEnd T.reasons T.fills (S.faults source.old) (S.faults source.new) (K.faults sink.old) (K.faults sink.new) result }
     ensures output { T.took taker.old [] → (input held : List ℕ) → S.left source.old ≡ Some input → K.held sink.old ≡ Some held → RunsTo T.known T.command longest limit input held result (K.held sink.new) }
 {
     let mut run = match Run::new(alloc, longest, limit) {

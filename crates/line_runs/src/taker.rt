@@ -29,6 +29,9 @@ pub trait LineTaker {
     /// The reasons for which a line may stop the run.
     ghost reasons: { LineWhyOf → Type 0 };
 
+    /// Whether what a line asks for may find no room, so that the run ends there as `PoolFull`.
+    ghost fills: { Type 0 };
+
     /// Whether these lines, newest first, were taken.
     ghost took: { Self → List (List ℕ) → Type 0 };
 
@@ -52,7 +55,7 @@ pub trait LineTaker {
     fn close(&mut self, alloc: Global, n: u64, text: &mut Vec<u8>) -> Result<Status, OutOfMemory>
         ensures closes { (ls : List (List ℕ)) → took self.old ls → n ≡ next_number ls → Closes (command.closing ls) text.old.items result text.new.items }
         ensures begins { BeginsWith text.old.items text.new.items }
-        ensures ends { IfOk result (MayEnd reasons 0 0 0 0) };
+        ensures ends { IfOk result (MayEnd reasons fills 0 0 0 0) };
 
     ghost knows: { (taker : Self) (ls : List (List ℕ)) → took taker ls → known ls };
 }

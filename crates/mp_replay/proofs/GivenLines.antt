@@ -1,9 +1,10 @@
 -- A line that was read holds sound values, as the world asks for them.
-use Rattle.std.proofs.Common.{◌≡◌, true, List, [], ◌∷◌, ◌++◌, refl, sym, ◌∙◌, subst}
+use Rattle.std.proofs.Common.{◌≡◌, true, List, [], ◌∷◌, ◌++◌, refl, sym, ◌∙◌, subst, Option, Some, None}
 use Rattle.std.specs.List.{list_all}
 use Rattle.std.proofs.lemmas.Bool.{and_from, and_parts}
 use Rattle.std.proofs.lemmas.List.Folds.{list_all-append}
 use Rattle.gd_variant.specs.Sound.{is_sound}
+use Rattle.gd_variant.specs.declared.value.Variant.{Variant}
 use Rattle.scene_model.specs.declared.scene.Prop.{Prop}
 use Rattle.scene_model.specs.declared.event.SpawnOp.{SpawnOp}
 use Rattle.scene_model.specs.declared.event.Op.TheVariants.{Spawn, Custom, Despawn, Set, Public, For, Filter, Call, Raw, Frame}
@@ -12,6 +13,7 @@ use Rattle.scene_model.specs.declared.world.WorldEvent.TheVariants.{Connect, Dow
 use Rattle.line_text.specs.declared.sessions.SessionLine.{SessionLine}
 use Rattle.line_text.specs.declared.sessions.SessionLine.TheVariants as line
 use Rattle.line_text.specs.Held.{held, prop_names, prop_values, IsGivenLine}
+use Rattle.peer_steps.specs.Arguments.{is_sound_argument}
 use Rattle.world_steps.specs.Sound.{has_sound, has_sound_values}
 
 -- settings have sound values where these are
@@ -24,11 +26,15 @@ settings_are_sound (p ∷ ps) h =
 spawn_is_sound : (o : SpawnOp) → list_all is_sound (held o.arg ++ prop_values o.sets) ≡ true → list_all has_sound o.sets ≡ true
 spawn_is_sound o values = settings_are_sound o.sets (and_parts (list_all is_sound (held o.arg)) (list_all is_sound (prop_values o.sets)) (sym (list_all-append is_sound (held o.arg) (prop_values o.sets)) ∙ values)).1
 
+argument_is_sound : (a : Option Variant) → list_all is_sound (held a) ≡ true → is_sound_argument a ≡ true
+argument_is_sound None h = refl
+argument_is_sound (Some v) h = (and_parts (is_sound v) true h).0
+
 event_is_sound : (e : WorldEvent) → IsGivenLine (line.Event e) → has_sound_values e ≡ true
 event_is_sound Connect g = refl
 event_is_sound (Down p) g = refl
 event_is_sound (Op p (Spawn o)) g = spawn_is_sound o g.values
-event_is_sound (Op p (Custom o)) g = refl
+event_is_sound (Op p (Custom o)) g = argument_is_sound o.arg (and_parts (list_all is_sound (held o.arg)) (list_all is_sound (prop_values o.sets)) (sym (list_all-append is_sound (held o.arg) (prop_values o.sets)) ∙ g.values)).0
 event_is_sound (Op p (Despawn path)) g = refl
 event_is_sound (Op p (Set path prop value)) g = (and_parts (is_sound value) true g.values).0
 event_is_sound (Op p (Public path k on)) g = refl

@@ -21,6 +21,10 @@ is_show ws = is_the_word (codes "show") ws
 abbrev pub is_known : List (String Global) → Bool
 is_known ws = is_replay ws || is_show ws
 
+-- a replay may end for want of room
+abbrev pub MayFill : Type 0
+MayFill = Unit {0}
+
 -- a line may stop a replay for any reason
 abbrev pub AnyReason : LineWhy → Type 0
 AnyReason reason = Unit {0}

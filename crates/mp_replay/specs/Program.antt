@@ -14,7 +14,7 @@ use Rattle.program_edge.specs.declared.status.Status.{Status}
 use Rattle.program_edge.specs.declared.status.Status.TheVariants as status
 use Rattle.line_runs.specs.Ends.{MayEnd}
 use Rattle.packet_show.specs.Shown.{IsHex}
-use Rattle.mp_replay.specs.Ends.{AnyReason, is_known, is_replay, is_show}
+use Rattle.mp_replay.specs.Ends.{AnyReason, MayFill, is_known, is_replay, is_show}
 use Rattle.mp_replay.specs.Sessions.{Replays, Shows}
 
 -- what is known of a stream: the bytes that it has left or holds, where it tells them, and how many of its calls failed
@@ -39,9 +39,9 @@ words_end kind = status.OutOfMemory
 pub record Does (words : List (String Global)) (input after output now : Stream) (s : Status) : Type 0 where
   pub usage : s ≡ status.Usage ↔ is_known words ≡ false
   pub untouched : is_known words ≡ false → now ≡ output
-  pub replay_ends : is_replay words ≡ true → MayEnd AnyReason input.faults after.faults output.faults now.faults s
+  pub replay_ends : is_replay words ≡ true → MayEnd AnyReason MayFill input.faults after.faults output.faults now.faults s
   pub replays : is_replay words ≡ true → Replays input.bytes output.bytes s now.bytes
-  pub show_ends : is_show words ≡ true → MayEnd IsHex input.faults after.faults output.faults now.faults s
+  pub show_ends : is_show words ≡ true → MayEnd IsHex ⊥ input.faults after.faults output.faults now.faults s
   pub shows : is_show words ≡ true → Shows input.bytes output.bytes s now.bytes
 
 -- the end came before anything was read or written

@@ -1,5 +1,5 @@
 -- What the lines of a session make, and what each line writes. Lines are listed newest first.
-use Rattle.std.specs.Prelude.{◌≡◌, ℕ, ℤ, true, false, List, [], ◌∷◌, ◌++◌, Option, Some, None, Result, Ok, Err, if◌then◌else◌}
+use Rattle.std.specs.Prelude.{◌≡◌, ℕ, ◌+◌, ℤ, Bool, true, false, not, ◌&&◌, length, List, [], ◌∷◌, ◌++◌, Option, Some, None, Result, Ok, Err, if◌then◌else◌}
 use Rattle.scene_model.specs.declared.scene.Scene.{Scene}
 use Rattle.scene_model.specs.declared.world.WorldEvent.{WorldEvent}
 use Rattle.scene_model.specs.declared.world.WorldNo.TheVariants as refusal
@@ -7,7 +7,7 @@ use Rattle.scene_model.specs.declared.world.WorldOutcome.TheVariants as answers
 use Rattle.peer_core.specs.Forms.{packet_form}
 use Rattle.world_model.specs.World.{World, is_in}
 use Rattle.world_model.specs.Happens.{world}
-use Rattle.world_model.specs.Answers.{world_answer, happened}
+use Rattle.world_model.specs.Answers.{world_answer, happened, overflows}
 use Rattle.world_model.specs.Replicas.{is_joined, reported}
 use Rattle.session_text.specs.Outcomes.{outcome_lines}
 use Rattle.session_text.specs.Reports.{report_lines}
@@ -21,9 +21,10 @@ use Rattle.line_text.specs.declared.sessions.SessionLine.{SessionLine}
 use Rattle.line_text.specs.declared.sessions.SessionLine.TheVariants as line
 use Rattle.line_text.specs.Scenes.{scene_line_read}
 use Rattle.line_text.specs.Sessions.{session_line_read}
-use Rattle.line_runs.specs.Output.{Command, EndsAs, Read, RunsTo, Telling, never_last, next_number, read_in, stops}
+use Rattle.line_runs.specs.Output.{Command, EndsAs, Read, RunsTo, Telling, next_number, read_in, stops}
 use Rattle.line_runs.specs.Steps.{Takes}
 use Rattle.line_runs.specs.declared.taker.Behind.{Behind}
+use Rattle.line_runs.specs.declared.taker.Behind.TheVariants as following
 use Rattle.packet_show.specs.Shown.{longest_line, most_judged, show_command}
 use Rattle.scene_model.specs.Valid.{IsValidScene}
 use Rattle.world_steps.specs.Scripts.{Happened, IsSettled}
@@ -39,9 +40,13 @@ pub record Session : Type 0 where
 abbrev pub world_of : Session → World
 world_of s = world packet_form s.scene s.script
 
--- a session with an event, where it happened
+-- whether an event asks for more in flight than there is room for: the session ends there
+abbrev pub event_fills : Session → WorldEvent → Bool
+event_fills s e = overflows packet_form s.scene (world_of s) e
+
+-- a session with an event, where it happened and had room
 abbrev pub with_event : Session → WorldEvent → Session
-with_event s e = if happened (world_answer packet_form s.scene (world_of s) e) then record s { script = e ∷ s.script } else s
+with_event s e = if happened (world_answer packet_form s.scene (world_of s) e) && not (event_fills s e) then record s { script = e ∷ s.script } else s
 
 -- a session after a line
 abbrev pub after_line : Session → Result SessionLine LineWhy → Session
@@ -69,9 +74,13 @@ report_text n s p =
     if is_in (world_of s) p then outcome_lines n (answers.Done None []) ++ report_lines p (reported packet_form s.scene (world_of s) p)
     else outcome_lines n (answers.Refused refusal.NoPeer)
 
+-- what line n writes that lets an event happen: nothing where there is no room for it
+abbrev pub event_text : ℕ → Session → WorldEvent → List ℕ
+event_text n s e = if event_fills s e then [] else outcome_lines n (world_answer packet_form s.scene (world_of s) e)
+
 -- what line n writes
 abbrev pub line_text : ℕ → Session → SessionLine → List ℕ
-line_text n s (line.Event e) = outcome_lines n (world_answer packet_form s.scene (world_of s) e)
+line_text n s (line.Event e) = event_text n s e
 line_text n s (line.Report p) = report_text n s p
 
 -- what line n of a session gives, by what it reads as
@@ -93,18 +102,37 @@ given n (Some s) l = line_given n s (session_line_read l)
 abbrev pub replay_told : Telling
 replay_told ls l = given (next_number ls) (session_of ls) l
 
+-- whether a line asks for more in flight than there is room for, by what it reads as
+abbrev pub line_fills : Session → Result SessionLine LineWhy → Bool
+line_fills s (Ok (line.Event e)) = event_fills s e
+line_fills s r = false
+
+-- the same, by the session so far
+abbrev pub fills : Option Session → List ℕ → Bool
+fills None l = false
+fills (Some s) l = line_fills s (session_line_read l)
+
+-- whether the last of some lines did
+abbrev pub are_full : List (List ℕ) → Bool
+are_full [] = false
+are_full (l ∷ ls) = fills (session_of ls) l
+
 -- an input without any byte has no scene line
 abbrev pub no_scene : Status
 no_scene = status.BadLine 1 why.Json
 
+-- how a session ends at line n, by whether that line found no room
+abbrev pub end_at : ℕ → Bool → Status
+end_at n full = if full then status.PoolFull n else status.Done
+
 -- what the end of the input gives: nothing more behind lines
 abbrev pub replay_closing : List (List ℕ) → Read
 replay_closing [] = stops no_scene
-replay_closing (l ∷ ls) = stops status.Done
+replay_closing (l ∷ ls) = stops (end_at (length ls + 1) (are_full (l ∷ ls)))
 
--- the command `replay`: no line ends the input
+-- the command `replay`: a line that finds no room ends the input
 abbrev pub replay_command : Command
-replay_command = record { told = replay_told; is_last = never_last; closing = replay_closing }
+replay_command = record { told = replay_told; is_last = λ ls l. fills (session_of ls) l; closing = replay_closing }
 
 -- What holds of a session: its scene is valid, its script happened, and of each two peers that are joined, what the second sees and reports of the first is what the delivered prefix of the first one's changes makes.
 pub record SessionHolds (s : Session) : Type 0 where
@@ -142,9 +170,20 @@ Holds None (Some v) = ⊥
 Holds (Some s) None = ⊥
 Holds (Some s) (Some v) = HoldsIn s v
 
--- a world holds what these lines made
-abbrev pub Took : Option Parts → List (List ℕ) → Type 0
-Took w ls = Holds (session_of ls) w
+-- A world holds what these lines made, and each found room.
+pub record TookAll (w : Option Parts) (ls : List (List ℕ)) : Type 0 where
+  pub holds : Holds (session_of ls) w
+  pub room : are_full ls ≡ false
+
+-- The last of these lines found no room.
+pub record TookTooMuch (ls : List (List ℕ)) : Type 0 where
+  pub full : are_full ls ≡ true
+  pub known : Known ls
+
+-- these lines were taken, and the last found no room, or all did
+abbrev pub Took : Option Parts → Bool → List (List ℕ) → Type 0
+Took w false ls = TookAll w ls
+Took w true ls = TookTooMuch ls
 
 -- the world that a scene line begins
 abbrev pub Begins : Result Scene LineWhy → Result Parts LineStop → Type 0
@@ -154,4 +193,8 @@ Begins read (Err stop.OutOfMemory) = Unit {0}
 
 -- what taking line n comes to, which isn't the scene line
 abbrev pub TakesEvent : ℕ → Session → List ℕ → List ℕ → Result Behind LineStop → List ℕ → Parts → Type 0
-TakesEvent n s l old result new v = Takes (line_given n s (session_line_read l)) false old result new (HoldsIn (after_line s (session_line_read l)) v)
+TakesEvent n s l old result new v = Takes (line_given n s (session_line_read l)) (line_fills s (session_line_read l)) old result new (line_fills s (session_line_read l) ≡ false → HoldsIn (after_line s (session_line_read l)) v)
+
+-- what stands behind an event, by whether it found room
+abbrev pub behind_event : Bool → Behind
+behind_event full = if full then following.End else following.Lines

@@ -3,7 +3,7 @@ ghost use Rattle.std.specs.Prelude.{◌≡◌, ◌↔◌, true, false};
 ghost use Rattle.program_edge.specs.declared.status.Status.TheVariants as status;
 ghost use Rattle.line_runs.specs.Ends.{MayEnd};
 ghost use Rattle.packet_show.specs.Shown.{IsHex};
-ghost use Rattle.mp_replay.specs.Ends.{AnyReason, is_known, is_replay as is_replay_of, is_show as is_show_of};
+ghost use Rattle.mp_replay.specs.Ends.{AnyReason, MayFill, is_known, is_replay as is_replay_of, is_show as is_show_of};
 ghost use Rattle.mp_replay.specs.Sessions.{Replays, Shows};
 
 use crate::session::Replayer;
@@ -22,7 +22,7 @@ const MOST_JUDGED: u32 = 1_073_741_824;
 /// Replays a session: reads it from the source, line by line, and writes to the sink what each line
 /// does and what each report holds, before it waits for more.
 fn replay<S: Source, K: Sink>(alloc: Global, source: &mut S, sink: &mut K) -> Status
-    ensures ends { MayEnd AnyReason (S.faults source.old) (S.faults source.new) (K.faults sink.old) (K.faults sink.new) result }
+    ensures ends { MayEnd AnyReason MayFill (S.faults source.old) (S.faults source.new) (K.faults sink.old) (K.faults sink.new) result }
     ensures output { Replays (S.left source.old) (K.held sink.old) result (K.held sink.new) }
 {
     let mut replayer = Replayer::new();
@@ -49,6 +49,8 @@ fn replay<S: Source, K: Sink>(alloc: Global, source: &mut S, sink: &mut K) -> St
 ///
 /// - `Done`: the input was read to its end, and all that it gives was written.
 /// - `Usage`: other words. Nothing is read or written.
+/// - `PoolFull`: at the first line that stops the run, by its number, a replay puts more in flight than there is
+///   room for; nothing is written of it.
 /// - `BadLine`: the first line that stops the run, by its number, isn't in the grammar of its command,
 ///   and why. An input without any byte is a wrong line 1 for `replay`.
 /// - `LineLong`: the first line that stops the run, by its number, has more than 33,554,432 bytes.
@@ -66,9 +68,9 @@ pub fn run<S: Source, K: Sink>(
     sink: &mut K,
 ) -> Status
     ensures usage { result ≡ status.Usage ↔ is_known words.now ≡ false }
-    ensures ends { is_replay_of words.now ≡ true → MayEnd AnyReason (S.faults source.old) (S.faults source.new) (K.faults sink.old) (K.faults sink.new) result }
+    ensures ends { is_replay_of words.now ≡ true → MayEnd AnyReason MayFill (S.faults source.old) (S.faults source.new) (K.faults sink.old) (K.faults sink.new) result }
     ensures output { is_replay_of words.now ≡ true → Replays (S.left source.old) (K.held sink.old) result (K.held sink.new) }
-    ensures show_ends { is_show_of words.now ≡ true → MayEnd IsHex (S.faults source.old) (S.faults source.new) (K.faults sink.old) (K.faults sink.new) result }
+    ensures show_ends { is_show_of words.now ≡ true → MayEnd IsHex ⊥ (S.faults source.old) (S.faults source.new) (K.faults sink.old) (K.faults sink.new) result }
     ensures show_output { is_show_of words.now ≡ true → Shows (S.left source.old) (K.held sink.old) result (K.held sink.new) }
     ensures untouched { is_known words.now ≡ false → (source.new ≡ source.old) × (sink.new ≡ sink.old) }
 {

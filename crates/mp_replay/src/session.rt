@@ -1,12 +1,13 @@
 //! A session that is replayed line by line.
-ghost use Rattle.std.specs.Prelude.{◌≡◌, ◌++◌, [], None, Ok, OnErr, OnOk, true};
+ghost use Rattle.std.specs.Prelude.{◌≡◌, ◌++◌, [], None, Ok, OnErr, OnOk, IfOk, true, false};
 ghost use Rattle.line_text.specs.Scenes.{scene_line_read};
 ghost use Rattle.line_runs.specs.Steps.{BeginsWith};
+ghost use Rattle.line_runs.specs.declared.taker.Behind.TheVariants as following;
 ghost use Rattle.world_steps.specs.Sound.{has_sound_values, is_built_event};
 ghost use Rattle.line_text.specs.Held.{IsGivenLine};
-ghost use Rattle.mp_replay.specs.Ends.{AnyReason};
+ghost use Rattle.mp_replay.specs.Ends.{AnyReason, MayFill};
 ghost use Rattle.mp_replay.specs.KnownLaws.{known_of};
-ghost use Rattle.mp_replay.specs.Sessions.{Begins, HoldsIn, Known, Session as SessionOf, TakesEvent, Took, after_line, line_text as line_text_of, replay_command, report_text as report_text_of, with_event, world_of};
+ghost use Rattle.mp_replay.specs.Sessions.{Begins, HoldsIn, Known, Session as SessionOf, TakesEvent, Took, after_line, behind_event, event_fills, event_text, line_fills, line_text as line_text_of, replay_command, report_text as report_text_of, with_event, world_of};
 ghost use Rattle.scene_model.specs.declared.world.WorldOutcome.TheVariants as answers;
 ghost use Rattle.session_text.specs.Outcomes.{outcome_lines};
 ghost use Rattle.session_text.specs.Reports.{report_lines};
@@ -99,6 +100,21 @@ fn report_of(
     }
 }
 
+/// Adds the answer to line `n`, behind which the other lines stand.
+fn add_answered(
+    alloc: Global,
+    n: u64,
+    outcome: &WorldOutcome,
+    text: &mut Vec<u8>,
+) -> Result<Behind, OutOfMemory>
+    ensures added { OnOk result (text.new.items ≡ text.old.items ++ outcome_lines n outcome.now) }
+    ensures behind { IfOk result (λ b. b ≡ following.Lines) }
+    ensures begins { BeginsWith text.old.items text.new.items }
+{
+    add_answer(alloc, n, outcome, text)?;
+    Ok(Behind::Lines)
+}
+
 /// Lets an event happen, and adds what line `n` writes.
 fn happen(
     alloc: Global,
@@ -106,18 +122,36 @@ fn happen(
     n: u64,
     event: WorldEvent,
     text: &mut Vec<u8>,
-) -> Result<(), OutOfMemory>
+) -> Result<Behind, OutOfMemory>
     requires built { is_built_event event ≡ true }
     requires sound { has_sound_values event ≡ true }
-    ensures added { (s : SessionOf) → HoldsIn s world.old → OnOk result (text.new.items ≡ text.old.items ++ outcome_lines n (world_answer packet_form s.scene (world_of s) event)) }
-    ensures holds { (s : SessionOf) → HoldsIn s world.old → OnOk result (HoldsIn (with_event s event) world.new) }
+    ensures behind { (s : SessionOf) → HoldsIn s world.old → IfOk result (λ b. b ≡ behind_event (event_fills s event)) }
+    ensures added { (s : SessionOf) → HoldsIn s world.old → OnOk result (text.new.items ≡ text.old.items ++ event_text n s event) }
+    ensures holds { (s : SessionOf) → HoldsIn s world.old → OnOk result (event_fills s event ≡ false → HoldsIn (with_event s event) world.new) }
     ensures begins { BeginsWith text.old.items text.new.items }
 {
     match world.step(alloc, event) {
-        Ok(outcome) => add_answer(alloc, n, &outcome, text),
+        Ok(outcome) => add_answered(alloc, n, &outcome, text),
+        Err(WorldStop::PoolFull) => Ok(Behind::End),
         Err(WorldStop::OutOfMemory) => Err(OutOfMemory),
         Err(WorldStop::Spent) => Err(OutOfMemory),
     }
+}
+
+/// Adds what line `n` writes, which asks for a report and behind which the other lines stand.
+fn add_reported(
+    alloc: Global,
+    world: &World,
+    n: u64,
+    peer: i32,
+    text: &mut Vec<u8>,
+) -> Result<Behind, OutOfMemory>
+    ensures added { (s : SessionOf) → HoldsIn s world.now → OnOk result (text.new.items ≡ text.old.items ++ report_text_of n s peer) }
+    ensures behind { IfOk result (λ b. b ≡ following.Lines) }
+    ensures begins { BeginsWith text.old.items text.new.items }
+{
+    report_of(alloc, world, n, peer, text)?;
+    Ok(Behind::Lines)
 }
 
 /// Lets happen what line `n` says, and adds what it writes.
@@ -127,15 +161,16 @@ fn act(
     n: u64,
     line: SessionLine,
     text: &mut Vec<u8>,
-) -> Result<(), OutOfMemory>
+) -> Result<Behind, OutOfMemory>
     requires { IsGivenLine line }
+    ensures behind { (s : SessionOf) → HoldsIn s world.old → IfOk result (λ b. b ≡ behind_event (line_fills s (Ok line))) }
     ensures added { (s : SessionOf) → HoldsIn s world.old → OnOk result (text.new.items ≡ text.old.items ++ line_text_of n s line) }
-    ensures holds { (s : SessionOf) → HoldsIn s world.old → OnOk result (HoldsIn (after_line s (Ok line)) world.new) }
+    ensures holds { (s : SessionOf) → HoldsIn s world.old → OnOk result (line_fills s (Ok line) ≡ false → HoldsIn (after_line s (Ok line)) world.new) }
     ensures begins { BeginsWith text.old.items text.new.items }
 {
     match line {
         SessionLine::Event(event) => happen(alloc, world, n, event, text),
-        SessionLine::Report(peer) => report_of(alloc, world, n, peer, text),
+        SessionLine::Report(peer) => add_reported(alloc, world, n, peer, text),
     }
 }
 
@@ -152,7 +187,7 @@ fn take_event(
 {
     let line = read_event(alloc, line)?;
     match act(alloc, world, n, line, text) {
-        Ok(()) => Ok(Behind::Lines),
+        Ok(behind) => Ok(behind),
         Err(OutOfMemory) => Err(LineStop::OutOfMemory),
     }
 }
@@ -161,14 +196,28 @@ fn take_event(
 #[derive(Drop)]
 pub struct Replayer {
     world: Option<World>,
+    /// Whether the last line asked for more in flight than there is room for.
+    full: bool,
+}
+
+fn is_end(behind: &Behind) -> bool
+    ensures { behind.now ≡ behind_event result }
+{
+    match behind {
+        Behind::Lines => false,
+        Behind::End => true,
+    }
 }
 
 impl Replayer {
     /// A session before its first line.
     pub fn new() -> Replayer
-        ensures { Took result.world [] }
+        ensures { Took result.world result.full [] }
     {
-        Replayer { world: None }
+        Replayer {
+            world: None,
+            full: false,
+        }
     }
 }
 
@@ -177,7 +226,9 @@ impl LineTaker for Replayer {
 
     ghost reasons = { AnyReason };
 
-    ghost took = { λ r ls. Took r.world ls };
+    ghost fills = { MayFill };
+
+    ghost took = { λ r ls. Took r.world r.full ls };
 
     ghost known = { Known };
 
@@ -188,8 +239,15 @@ impl LineTaker for Replayer {
         line: &[u8],
         text: &mut Vec<u8>,
     ) -> Result<Behind, LineStop> {
+        if self.full {
+            return Err(LineStop::OutOfMemory);
+        }
         match &mut self.world {
-            Some(world) => take_event(alloc, world, n, line, text),
+            Some(world) => {
+                let behind = take_event(alloc, world, n, line, text)?;
+                self.full = is_end(&behind);
+                Ok(behind)
+            }
             None => {
                 let world = begin(alloc, line)?;
                 self.world = Some(world);
@@ -210,8 +268,13 @@ impl LineTaker for Replayer {
                 why: LineWhy::Json,
             });
         }
+        if self.full {
+            return Ok(Status::PoolFull {
+                n: n.saturating_sub(1),
+            });
+        }
         Ok(Status::Done)
     }
 
-    ghost knows = { λ r ls took. known_of r.world ls took };
+    ghost knows = { λ r ls took. known_of r.world r.full ls took };
 }

@@ -1,13 +1,11 @@
 -- Clients that are looked for and written one after the other.
-use Rattle.std.proofs.Common.{◌≡◌, ℕ, zero, suc, ◌+◌, ◌<◌, ◌≤◌, ℤ, Bool, true, false, cond, List, [], ◌∷◌, ◌++◌, length, map, filter, take, drop, refl, sym, ap, ap₂, ◌∙◌, subst, arith, Option, Some, None, append_assoc}
+use Rattle.std.proofs.Common.{◌≡◌, ℕ, zero, suc, ◌+◌, ◌<◌, ◌≤◌, ℤ, Bool, true, false, List, [], ◌∷◌, ◌++◌, length, take, drop, refl, sym, ap, ap₂, ◌∙◌, arith, Option, Some, None}
 use Rattle.std.specs.Prelude.{slice_get, slice_index_or, option_map, if◌then◌else◌}
 use Rattle.std.specs.List.{slice_set}
 use Rattle.std.specs.Ordering.{int_eq}
-use Rattle.std.proofs.lemmas.List.{append-nil}
-use Rattle.std.proofs.lemmas.List.Elements.{filter-append}
 use Rattle.scene_model.specs.declared.outcome.Out.{Out}
-use Rattle.world_steps.specs.Steps.{Client, place_of, waits_for, waiting_with, with_down, with_packets}
-use Rattle.world_steps.proofs.Links.{some_same, take_one}
+use Rattle.world_steps.specs.Steps.{Client, place_of, with_down, with_packets}
+use Rattle.world_steps.proofs.Links.{some_same}
 
 -- what stands at a place that there is
 pub got_at : {X : Type 0} (xs : List X) (i : ℕ) (x : X) → i < length xs → x ≡ slice_index_or xs i x → slice_get xs i ≡ Some x

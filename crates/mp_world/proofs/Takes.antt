@@ -14,11 +14,11 @@ use Rattle.scene_model.specs.declared.world.WorldOutcome.TheVariants as answers
 use Rattle.scene_model.specs.declared.world.WorldNo.TheVariants as refusal
 use Rattle.peer_model.specs.Heard.{server}
 use Rattle.peer_steps.specs.Kept.{Kept, new_peer}
-use Rattle.peer_steps.specs.Steps.{Taken, taken}
+use Rattle.peer_steps.specs.Steps.{Taken, taken, is_done}
 use Rattle.peer_core.specs.Forms.{packet_form}
 use Rattle.world_model.specs.Happens.{packets_in}
 use Rattle.world_model.specs.Answers.{has_no_link, peer_answer}
-use Rattle.world_steps.specs.Steps.{Client, Parts, Made, live_parts, place_of, has_peer, new_client, waiting_with, with_packets, with_client, unchanged, is_full, number_after, connect_as, connect_made, server_made, client_made, client_does, does_at, op_made, deliver_down, deliver_up, delivers_of, delivers_at, rel_made, IsTaken}
+use Rattle.world_steps.specs.Steps.{Client, Parts, Made, live_parts, place_of, has_peer, new_client, put_with, waiting_with, with_packets, left_after, with_client, unchanged, is_full, number_after, connect_as, connect_made, server_made, down_with, client_made, client_does, does_at, op_made, deliver_down, deliver_up, delivers_of, delivers_at, rel_made, IsTaken}
 use Rattle.world_steps.proofs.Links.{some_same}
 use Rattle.world_steps.proofs.Lists.{set_same}
 use Rattle.world_steps.proofs.Places.{client_there}
@@ -47,21 +47,26 @@ pub made_as : {E : Type 0} (r : Result WorldOutcome E) (v : Parts) (m n : Made) 
 made_as r v m n is h = subst (λ x. IfOk r (λ o. record { outcome = o; parts = v } ≡ x)) is h
 
 -- the same with one count of clients for another
-pub counted_as : {E : Type 0} (r : Result WorldOutcome E) (k : Kept) (n m : ℕ) (cs : List Client) (x : Made) → n ≡ m → IfOk r (λ o. record { outcome = o; parts = live_parts k m cs } ≡ x) → IfOk r (λ o. record { outcome = o; parts = live_parts k n cs } ≡ x)
-counted_as r k n m cs x is h = subst (λ j. IfOk r (λ o. record { outcome = o; parts = live_parts k j cs } ≡ x)) (sym is) h
+pub counted_as : {E : Type 0} (r : Result WorldOutcome E) (k : Kept) (n m put : ℕ) (cs : List Client) (x : Made) → n ≡ m → IfOk r (λ o. record { outcome = o; parts = live_parts k m put cs } ≡ x) → IfOk r (λ o. record { outcome = o; parts = live_parts k n put cs } ≡ x)
+counted_as r k n m put cs x is h = subst (λ j. IfOk r (λ o. record { outcome = o; parts = live_parts k j put cs } ≡ x)) (sym is) h
 
 -- where there is room, the next client connects
 pub there_is_room : (v : Parts) (id : ℤ) → is_full v.come v.clients ≡ false → id ≡ pos (number_after v.come) → connect_as v id ≡ connect_made v
 there_is_room v id room is = ap (connect_as v) is ∙ sym (ap (λ t. if t then unchanged v (answers.Refused refusal.PeersFull) else connect_as v (pos (number_after v.come))) room)
 
+-- what a client that took an event sends is counted
+abbrev pub put_by : ℕ → Client → Event → ℕ
+put_by put c e = put_with put (packets_in (taken packet_form c.kept e).outcome)
+
 -- an operation of a client that is there
-pub does_there : {E : Type 0} (r : Result WorldOutcome E) (v : Parts) (p : ℤ) (op : Operation) (i : ℕ) (c d : Client) → place_of p v.clients ≡ Some i → i < length v.clients → c ≡ slice_index_or v.clients i c
-    → OnOk r (d ≡ took c (event.Op op)) → IfOk r (λ o. o ≡ peer_answer c.number (taken packet_form c.kept (event.Op op)).outcome)
-    → IfOk r (λ o. record { outcome = o; parts = with_client v i d } ≡ does_at v op (place_of p v.clients))
-does_there (Ok o) v p op i c d e below at now said =
-    ap₂ (λ x f. record { outcome = x; parts = with_client v i f }) said now
+pub does_there : {E : Type 0} (r : Result WorldOutcome E) (v : Parts) (p : ℤ) (op : Operation) (i n : ℕ) (c d : Client) → place_of p v.clients ≡ Some i → i < length v.clients → c ≡ slice_index_or v.clients i c
+    → OnOk r (d ≡ took c (event.Op op)) → OnOk r (n ≡ put_by v.put c (event.Op op)) → IfOk r (λ o. o ≡ peer_answer c.number (taken packet_form c.kept (event.Op op)).outcome)
+    → IfOk r (λ o. record { outcome = o; parts = with_client (record v { put = n }) i d } ≡ does_at v op (place_of p v.clients))
+does_there (Ok o) v p op i n c d e below at now put said =
+    ap₂ (λ x f. record { outcome = x; parts = with_client (record v { put = n }) i f }) said now
+    ∙ ap (λ m. record { outcome = peer_answer c.number (taken packet_form c.kept (event.Op op)).outcome; parts = with_client (record v { put = m }) i (took c (event.Op op)) }) put
     ∙ sym (ap (does_at v op) e ∙ ap (client_does v i op) (got_at v.clients i c below at))
-does_there (Err x) v p op i c d e below at now said = tt
+does_there (Err x) v p op i n c d e below at now put said = tt
 
 -- an operation of a peer that isn't the server
 pub op_of_client : (v : Parts) (p : ℤ) (op : Operation) → int_eq p server ≡ false → does_at v op (place_of p v.clients) ≡ op_made v p op
@@ -71,9 +76,9 @@ pub op_of_nobody : (v : Parts) (p : ℤ) (op : Operation) → place_of p v.clien
 op_of_nobody v p op none = sym (ap (does_at v op) none)
 
 -- no packet for a client
-pub nothing_down : (v : Parts) (i : ℕ) (c d : Client) → slice_get v.clients i ≡ Some c → d ≡ c → c.down ≡ [] → record { outcome = answers.Refused refusal.NothingInFlight; parts = with_client v i d } ≡ deliver_down v i c c.down
-nothing_down v i c d at same none =
-    ap (λ cs. unchanged (record v { clients = cs }) (answers.Refused refusal.NothingInFlight)) (ap (slice_set v.clients i) same ∙ set_same v.clients i c at)
+pub nothing_down : (v : Parts) (i put : ℕ) (c d : Client) → slice_get v.clients i ≡ Some c → v.put ≡ put → d ≡ c → c.down ≡ [] → record { outcome = answers.Refused refusal.NothingInFlight; parts = with_client (record v { put = put }) i d } ≡ deliver_down v i c c.down
+nothing_down v i put c d at counted same none =
+    ap₂ (λ n cs. unchanged (record v { put = n; clients = cs }) (answers.Refused refusal.NothingInFlight)) (sym counted) (ap (slice_set v.clients i) same ∙ set_same v.clients i c at)
     ∙ sym (ap (deliver_down v i c) none)
 
 -- a packet as its receiver sees it
@@ -81,42 +86,55 @@ abbrev pub received : ℤ → Out → Event
 received from x = event.Received from x.class x.bytes
 
 -- the next packet for a client, which took it
-pub taken_down : {E : Type 0} (r : Result WorldOutcome E) (v : Parts) (i : ℕ) (c d e : Client) (x : Out) (got : Event) → c.down ≡ x ∷ d.down → d ≡ record c { down = d.down } → got ≡ received server x
-    → OnOk r (e ≡ took d got) → IfOk r (λ o. o ≡ peer_answer d.number (taken packet_form d.kept got).outcome) → IfOk r (λ o. record { outcome = o; parts = with_client v i e } ≡ deliver_down v i c c.down)
-taken_down (Err z) v i c d e x got next rest is now said = tt
-taken_down (Ok o) v i c d e x got next rest is now said =
-    ap₂ (λ y f. record { outcome = y; parts = with_client v i f }) said now
+pub taken_down : {E : Type 0} (r : Result WorldOutcome E) (v : Parts) (i put n : ℕ) (c d e : Client) (x : Out) (got : Event) → v.put ≡ put → c.down ≡ x ∷ d.down → d ≡ record c { down = d.down } → got ≡ received server x
+    → OnOk r (e ≡ took d got) → OnOk r (n ≡ put_by put d got) → IfOk r (λ o. o ≡ peer_answer d.number (taken packet_form d.kept got).outcome) → IfOk r (λ o. record { outcome = o; parts = with_client (record v { put = n }) i e } ≡ deliver_down v i c c.down)
+taken_down (Err z) v i put n c d e x got counted next rest is now more said = tt
+taken_down (Ok o) v i put n c d e x got counted next rest is now more said =
+    ap₂ (λ y f. record { outcome = y; parts = with_client (record v { put = n }) i f }) said now
+    ∙ ap (λ m. record { outcome = peer_answer d.number (taken packet_form d.kept got).outcome; parts = with_client (record v { put = m }) i (took d got) }) (more ∙ ap (λ m. put_by m d got) (sym counted))
     ∙ ap (client_made v i d) is
     ∙ ap (λ z. client_made v i z (received server x)) rest
     ∙ sym (ap (deliver_down v i c) next)
 
 -- the next packet for a client that is there
-pub down_there : (v : Parts) (p : ℤ) (i : ℕ) (c : Client) → place_of p v.clients ≡ Some i → slice_get v.clients i ≡ Some c → deliver_down v i c c.down ≡ delivers_at v true (place_of p v.clients)
-down_there v p i c e at = sym (ap (delivers_at v true) e ∙ ap (delivers_of v true i) at)
+pub next_down_there : (v : Parts) (p : ℤ) (i : ℕ) (c : Client) → place_of p v.clients ≡ Some i → slice_get v.clients i ≡ Some c → deliver_down v i c c.down ≡ delivers_at v true (place_of p v.clients)
+next_down_there v p i c e at = sym (ap (delivers_at v true) e ∙ ap (delivers_of v true i) at)
 
 pub delivers_nowhere : (v : Parts) (is_down : Bool) (p : ℤ) → place_of p v.clients ≡ None → unchanged v (answers.Refused refusal.NoPeer) ≡ delivers_at v is_down (place_of p v.clients)
 delivers_nowhere v is_down p none = sym (ap (delivers_at v is_down) none)
 
 -- the next packet from a client, which the server took
-pub up_there : {E : Type 0} (r : Result WorldOutcome E) (k s : Kept) (come : ℕ) (cs es : List Client) (i : ℕ) (c d : Client) (x : Out) (got : Event) → slice_get cs i ≡ Some c → c.up ≡ x ∷ d.up → d ≡ record c { up = d.up } → got ≡ received c.number x
-    → OnOk r (s ≡ (taken packet_form k got).kept) → OnOk r (es ≡ with_packets (packets_in (taken packet_form k got).outcome) (slice_set cs i d)) → IfOk r (λ o. o ≡ peer_answer server (taken packet_form k got).outcome)
-    → IfOk r (λ o. record { outcome = o; parts = live_parts s come es } ≡ delivers_at (live_parts k come cs) false (Some i))
-up_there (Err z) k s come cs es i c d x got at next rest is kept clients said = tt
-up_there (Ok o) k s come cs es i c d x got at next rest is kept clients said =
-    ap₂ (λ y ds. record { outcome = y; parts = live_parts s come ds }) said clients
-    ∙ ap₂ (λ j f. record { outcome = peer_answer server (taken packet_form k got).outcome; parts = live_parts j come (with_packets (packets_in (taken packet_form k got).outcome) (slice_set cs i f)) }) kept rest
+pub up_there : {E : Type 0} (r : Result WorldOutcome E) (k s : Kept) (come put n : ℕ) (cs es : List Client) (i : ℕ) (c d : Client) (x : Out) (got : Event) → slice_get cs i ≡ Some c → c.up ≡ x ∷ d.up → d ≡ record c { up = d.up } → got ≡ received c.number x
+    → OnOk r (s ≡ (taken packet_form k got).kept) → OnOk r (es ≡ with_packets (packets_in (taken packet_form k got).outcome) (slice_set cs i d)) → OnOk r (n ≡ put_with put (packets_in (taken packet_form k got).outcome)) → IfOk r (λ o. o ≡ peer_answer server (taken packet_form k got).outcome)
+    → IfOk r (λ o. record { outcome = o; parts = live_parts s come n es } ≡ delivers_at (live_parts k come put cs) false (Some i))
+up_there (Err z) k s come put n cs es i c d x got at next rest is kept clients more said = tt
+up_there (Ok o) k s come put n cs es i c d x got at next rest is kept clients more said =
+    ap₂ (λ y ds. record { outcome = y; parts = live_parts s come n ds }) said clients
+    ∙ ap₂ (λ j m. record { outcome = peer_answer server (taken packet_form k got).outcome; parts = live_parts j come m (with_packets (packets_in (taken packet_form k got).outcome) (slice_set cs i d)) }) kept more
+    ∙ ap (λ f. server_made (with_client (live_parts k come put cs) i f) got) rest
     ∙ ap made_of is
-    ∙ sym (ap (delivers_of (live_parts k come cs) false i) at ∙ ap (deliver_up (live_parts k come cs) i c) next)
+    ∙ sym (ap (delivers_of (live_parts k come put cs) false i) at ∙ ap (deliver_up (live_parts k come put cs) i c) next)
   where
     made_of : Event → Made
-    made_of f = server_made (with_client (live_parts k come cs) i (record c { up = d.up })) f
+    made_of f = server_made (with_client (live_parts k come put cs) i (record c { up = d.up })) f
 
 -- no packet from a client
-pub nothing_up : (k : Kept) (come : ℕ) (cs : List Client) (i : ℕ) (c d : Client) → slice_get cs i ≡ Some c → IsTaken c.up d.up None → d ≡ record c { up = d.up }
-    → record { outcome = answers.Refused refusal.NothingInFlight; parts = live_parts k come (slice_set cs i d) } ≡ delivers_at (live_parts k come cs) false (Some i)
-nothing_up k come cs i c d at none rest =
-    ap (λ ds. unchanged (live_parts k come ds) (answers.Refused refusal.NothingInFlight)) (ap (slice_set cs i) (rest ∙ ap (λ us. record c { up = us }) (none.1 ∙ sym none.0)) ∙ set_same cs i c at)
-    ∙ sym (ap (delivers_of (live_parts k come cs) false i) at ∙ ap (deliver_up (live_parts k come cs) i c) none.0)
+pub nothing_up : (k : Kept) (come put : ℕ) (cs : List Client) (i : ℕ) (c d : Client) → slice_get cs i ≡ Some c → IsTaken c.up d.up None → d ≡ record c { up = d.up }
+    → record { outcome = answers.Refused refusal.NothingInFlight; parts = live_parts k come put (slice_set cs i d) } ≡ delivers_at (live_parts k come put cs) false (Some i)
+nothing_up k come put cs i c d at none rest =
+    ap (λ ds. unchanged (live_parts k come put ds) (answers.Refused refusal.NothingInFlight)) (ap (slice_set cs i) (rest ∙ ap (λ us. record c { up = us }) (none.1 ∙ sym none.0)) ∙ set_same cs i c at)
+    ∙ sym (ap (delivers_of (live_parts k come put cs) false i) at ∙ ap (deliver_up (live_parts k come put cs) i c) none.0)
+
+-- a client that goes down
+
+-- the server took its link down
+pub went : {E : Type 0} (r : Result WorldOutcome E) (k s : Kept) (come put n : ℕ) (cs ds es : List Client) (p q : ℤ) (o : Outcome) → q ≡ p → record { outcome = o; kept = s } ≡ taken packet_form k (event.Down q) → n ≡ put_with put (packets_in o) → ds ≡ left_after (is_done o) p cs → es ≡ with_packets (packets_in o) ds
+    → IfOk r (λ a. a ≡ peer_answer server o) → IfOk r (λ a. record { outcome = a; parts = live_parts s come n es } ≡ down_with (live_parts k come put cs) p (taken packet_form k (event.Down p)))
+went (Err z) k s come put n cs ds es p q o same step count left sent said = tt
+went (Ok a) k s come put n cs ds es p q o same step count left sent said =
+    ap₂ (λ y zs. record { outcome = y; parts = live_parts s come n zs }) said (sent ∙ ap (with_packets (packets_in o)) left)
+    ∙ ap (λ m. record { outcome = peer_answer server o; parts = live_parts s come m (with_packets (packets_in o) (left_after (is_done o) p cs)) }) count
+    ∙ ap (down_with (live_parts k come put cs) p) (step ∙ ap (λ z. taken packet_form k (event.Down z)) same)
 
 -- which packets can be delivered
 abbrev rel_by : Parts → ℤ → ℤ → Bool → Bool → Bool → Made

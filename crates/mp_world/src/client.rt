@@ -1,7 +1,7 @@
 //! The clients of a world: what each holds, and what waits on both ways of its link.
-ghost use Rattle.std.specs.Prelude.{◌≡◌, ◌<◌, None, OnOk, MatchOption, Some, length};
+ghost use Rattle.std.specs.Prelude.{◌≡◌, ◌<◌, None, OnOk, MatchOption, Some, length, not, true};
 ghost use Rattle.std.specs.Ordering.{int_eq};
-ghost use Rattle.world_steps.specs.Steps.{place_of, with_down, with_packets};
+ghost use Rattle.world_steps.specs.Steps.{left_after, place_of, with_down, with_packets};
 
 use crate::way::put_on;
 use gd_variant::OutOfMemory;
@@ -36,6 +36,19 @@ fn is_same(a: &i32, b: &i32) -> bool
     ensures { result ≡ int_eq a.now b.now }
 {
     *a == *b
+}
+
+fn is_other(client: &Client, number: &i32) -> bool
+    ensures { result ≡ not (int_eq client.now.number number.now) }
+{
+    !is_same(&client.number, number)
+}
+
+/// Drops the client with this number, with what waits on its link.
+pub fn drop_client(clients: &mut Vec<Client>, number: &i32)
+    ensures { clients.new.items ≡ left_after true number.now clients.old.items }
+{
+    clients.retain(|client| is_other(client, number));
 }
 
 /// The place of the client with this number, where there is one.

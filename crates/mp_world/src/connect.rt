@@ -11,6 +11,7 @@ ghost use Rattle.world_model.specs.Answers.{effects_in, step_of};
 ghost use Rattle.world_steps.specs.Steps.{connect_as as made_as, connect_made, is_full as has_no_room, live_parts, new_client as client_made_of, number_after};
 
 use crate::client::Client;
+use crate::flight::count_sent;
 use crate::steps::{SERVER, effects_of, send_down, send_up, step};
 use gd_variant::OutOfMemory;
 use peer_core::Peer;
@@ -77,16 +78,19 @@ fn answer_of(
 fn connect_as(
     server: &mut Peer,
     clients: &mut Vec<Client>,
+    put: &mut u64,
     alloc: Global,
     number: &i32,
 ) -> Result<WorldOutcome, OutOfMemory>
     requires number { pos 1 ≤ℤ number.now }
     requires scene { IsValidScene server.old.who.scene }
-    ensures { (come : ℕ) → IfOk result (λ o. record { outcome = o; parts = live_parts server.new (come + 1) clients.new.items } ≡ made_as (live_parts server.old come clients.old.items) number.now) }
+    ensures { (come : ℕ) → IfOk result (λ o. record { outcome = o; parts = live_parts server.new (come + 1) put.new clients.new.items } ≡ made_as (live_parts server.old come put.old clients.old.items) number.now) }
 {
     let id = *number;
     let (client, second) = new_client(alloc, number, server.scene())?;
     let first = step(server, alloc, Event::Up(id))?;
+    count_sent(put, &first);
+    count_sent(put, &second);
     clients.push(client)?;
     send_down(clients, alloc, &first)?;
     answer_of(alloc, number, first, second)
@@ -121,15 +125,16 @@ pub fn connect(
     server: &mut Peer,
     clients: &mut Vec<Client>,
     come: &mut u32,
+    put: &mut u64,
     alloc: Global,
 ) -> Result<WorldOutcome, OutOfMemory>
     requires { IsValidScene server.old.who.scene }
-    ensures { IfOk result (λ o. record { outcome = o; parts = live_parts server.new come.new clients.new.items } ≡ connect_made (live_parts server.old come.old clients.old.items)) }
+    ensures { IfOk result (λ o. record { outcome = o; parts = live_parts server.new come.new put.new clients.new.items } ≡ connect_made (live_parts server.old come.old put.old clients.old.items)) }
 {
     if is_full(clients, come) {
         return Ok(WorldOutcome::Refused(WorldNo::PeersFull));
     }
     let number = next_number(clients, come);
     count_one(clients, come);
-    connect_as(server, clients, alloc, &number)
+    connect_as(server, clients, put, alloc, &number)
 }

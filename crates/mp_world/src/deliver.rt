@@ -14,13 +14,13 @@ use std::alloc::Global;
 
 /// Whether a peer is there.
 fn is_there(clients: &Vec<Client>, peer: &i32) -> bool
-    ensures { (k : Kept) (come : ℕ) → result ≡ has_peer (live_parts k come clients.now.items) peer.now }
+    ensures { (k : Kept) (come put : ℕ) → result ≡ has_peer (live_parts k come put clients.now.items) peer.now }
 {
     is_server(peer) || client_place(clients, peer).is_some()
 }
 
 fn are_there(clients: &Vec<Client>, from: &i32, to: &i32) -> bool
-    ensures { (k : Kept) (come : ℕ) → result ≡ (has_peer (live_parts k come clients.now.items) from.now && has_peer (live_parts k come clients.now.items) to.now) }
+    ensures { (k : Kept) (come put : ℕ) → result ≡ (has_peer (live_parts k come put clients.now.items) from.now && has_peer (live_parts k come put clients.now.items) to.now) }
 {
     is_there(clients, from) && is_there(clients, to)
 }
@@ -33,11 +33,15 @@ fn is_link(from: &i32, to: &i32) -> bool
 }
 
 /// The next packet for a client.
-fn take_down(client: &mut Client, alloc: Global) -> Result<WorldOutcome, OutOfMemory>
-    ensures { (v : PartsOf) (i : ℕ) → slice_get v.clients i ≡ Some client.old → IfOk result (λ o. record { outcome = o; parts = with_client v i client.new } ≡ deliver_down v i client.old client.old.down) }
+fn take_down(
+    client: &mut Client,
+    put: &mut u64,
+    alloc: Global,
+) -> Result<WorldOutcome, OutOfMemory>
+    ensures { (v : PartsOf) (i : ℕ) → slice_get v.clients i ≡ Some client.old → v.put ≡ put.old → IfOk result (λ o. record { outcome = o; parts = with_client (record v { put = put.new }) i client.new } ≡ deliver_down v i client.old client.old.down) }
 {
     match take_next(&mut client.down) {
-        Some(packet) => take_at_client(client, alloc, arrival(&SERVER, packet)),
+        Some(packet) => take_at_client(client, put, alloc, arrival(&SERVER, packet)),
         None => Ok(WorldOutcome::Refused(WorldNo::NothingInFlight)),
     }
 }
@@ -53,13 +57,14 @@ fn take_up(client: &mut Client) -> Option<Out>
 /// Delivers the next packet of the server to a client.
 fn deliver_to_client(
     clients: &mut Vec<Client>,
+    put: &mut u64,
     alloc: Global,
     number: &i32,
 ) -> Result<WorldOutcome, OutOfMemory>
-    ensures { (k : Kept) (come : ℕ) → IfOk result (λ o. record { outcome = o; parts = live_parts k come clients.new.items } ≡ delivers_at (live_parts k come clients.old.items) true (place_of number.now clients.old.items)) }
+    ensures { (k : Kept) (come : ℕ) → IfOk result (λ o. record { outcome = o; parts = live_parts k come put.new clients.new.items } ≡ delivers_at (live_parts k come put.old clients.old.items) true (place_of number.now clients.old.items)) }
 {
     match client_place(clients, number) {
-        Some(place) => take_down(&mut clients[place], alloc),
+        Some(place) => take_down(&mut clients[place], put, alloc),
         None => Ok(WorldOutcome::Refused(WorldNo::NoPeer)),
     }
 }
@@ -68,16 +73,17 @@ fn deliver_to_client(
 fn deliver_from(
     server: &mut Peer,
     clients: &mut Vec<Client>,
+    put: &mut u64,
     alloc: Global,
     number: &i32,
     place: usize,
 ) -> Result<WorldOutcome, OutOfMemory>
     requires place { place_of number.now clients.old.items ≡ Some place }
     requires within { place < length clients.old.items }
-    ensures { (come : ℕ) → IfOk result (λ o. record { outcome = o; parts = live_parts server.new come clients.new.items } ≡ delivers_at (live_parts server.old come clients.old.items) false (Some place)) }
+    ensures { (come : ℕ) → IfOk result (λ o. record { outcome = o; parts = live_parts server.new come put.new clients.new.items } ≡ delivers_at (live_parts server.old come put.old clients.old.items) false (Some place)) }
 {
     match take_up(&mut clients[place]) {
-        Some(packet) => take_at_server(server, clients, alloc, arrival(number, packet)),
+        Some(packet) => take_at_server(server, clients, put, alloc, arrival(number, packet)),
         None => Ok(WorldOutcome::Refused(WorldNo::NothingInFlight)),
     }
 }
@@ -86,13 +92,14 @@ fn deliver_from(
 fn deliver_to_server(
     server: &mut Peer,
     clients: &mut Vec<Client>,
+    put: &mut u64,
     alloc: Global,
     number: &i32,
 ) -> Result<WorldOutcome, OutOfMemory>
-    ensures { (come : ℕ) → IfOk result (λ o. record { outcome = o; parts = live_parts server.new come clients.new.items } ≡ delivers_at (live_parts server.old come clients.old.items) false (place_of number.now clients.old.items)) }
+    ensures { (come : ℕ) → IfOk result (λ o. record { outcome = o; parts = live_parts server.new come put.new clients.new.items } ≡ delivers_at (live_parts server.old come put.old clients.old.items) false (place_of number.now clients.old.items)) }
 {
     match client_place(clients, number) {
-        Some(place) => deliver_from(server, clients, alloc, number, place),
+        Some(place) => deliver_from(server, clients, put, alloc, number, place),
         None => Ok(WorldOutcome::Refused(WorldNo::NoPeer)),
     }
 }
@@ -101,19 +108,20 @@ fn deliver_to_server(
 pub fn deliver(
     server: &mut Peer,
     clients: &mut Vec<Client>,
+    put: &mut u64,
     alloc: Global,
     from: &i32,
     to: &i32,
 ) -> Result<WorldOutcome, OutOfMemory>
-    ensures { (come : ℕ) → IfOk result (λ o. record { outcome = o; parts = live_parts server.new come clients.new.items } ≡ rel_made (live_parts server.old come clients.old.items) from.now to.now) }
+    ensures { (come : ℕ) → IfOk result (λ o. record { outcome = o; parts = live_parts server.new come put.new clients.new.items } ≡ rel_made (live_parts server.old come put.old clients.old.items) from.now to.now) }
 {
     if !are_there(clients, from, to) {
         Ok(WorldOutcome::Refused(WorldNo::NoPeer))
     } else if !is_link(from, to) {
         Ok(WorldOutcome::Refused(WorldNo::NotLink))
     } else if is_server(from) {
-        deliver_to_client(clients, alloc, to)
+        deliver_to_client(clients, put, alloc, to)
     } else {
-        deliver_to_server(server, clients, alloc, from)
+        deliver_to_server(server, clients, put, alloc, from)
     }
 }

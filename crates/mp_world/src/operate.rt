@@ -15,16 +15,17 @@ use std::alloc::Global;
 /// An operation of a client.
 fn operate_at_client(
     clients: &mut Vec<Client>,
+    put: &mut u64,
     alloc: Global,
     number: &i32,
     op: Op,
 ) -> Result<WorldOutcome, OutOfMemory>
     requires built { is_built_op op ≡ true }
     requires sound { is_sound_op op ≡ true }
-    ensures { (k : Kept) (come : ℕ) → IfOk result (λ o. record { outcome = o; parts = live_parts k come clients.new.items } ≡ does_at (live_parts k come clients.old.items) op (place_of number.now clients.old.items)) }
+    ensures { (k : Kept) (come : ℕ) → IfOk result (λ o. record { outcome = o; parts = live_parts k come put.new clients.new.items } ≡ does_at (live_parts k come put.old clients.old.items) op (place_of number.now clients.old.items)) }
 {
     match client_place(clients, number) {
-        Some(place) => take_at_client(&mut clients[place], alloc, Event::Op(op)),
+        Some(place) => take_at_client(&mut clients[place], put, alloc, Event::Op(op)),
         None => Ok(WorldOutcome::Refused(WorldNo::NoPeer)),
     }
 }
@@ -33,17 +34,18 @@ fn operate_at_client(
 pub fn operate(
     server: &mut Peer,
     clients: &mut Vec<Client>,
+    put: &mut u64,
     alloc: Global,
     peer: &i32,
     op: Op,
 ) -> Result<WorldOutcome, OutOfMemory>
     requires built { is_built_op op ≡ true }
     requires sound { is_sound_op op ≡ true }
-    ensures { (come : ℕ) → IfOk result (λ o. record { outcome = o; parts = live_parts server.new come clients.new.items } ≡ op_made (live_parts server.old come clients.old.items) peer.now op) }
+    ensures { (come : ℕ) → IfOk result (λ o. record { outcome = o; parts = live_parts server.new come put.new clients.new.items } ≡ op_made (live_parts server.old come put.old clients.old.items) peer.now op) }
 {
     if is_server(peer) {
-        take_at_server(server, clients, alloc, Event::Op(op))
+        take_at_server(server, clients, put, alloc, Event::Op(op))
     } else {
-        operate_at_client(clients, alloc, peer, op)
+        operate_at_client(clients, put, alloc, peer, op)
     }
 }

@@ -8,9 +8,10 @@ ghost use Rattle.peer_steps.specs.Steps.{taken};
 ghost use Rattle.peer_core.specs.Forms.{packet_form};
 ghost use Rattle.world_model.specs.Happens.{packets_in};
 ghost use Rattle.world_model.specs.Answers.{effects_in, peer_answer};
-ghost use Rattle.world_steps.specs.Steps.{waiting_with, with_packets};
+ghost use Rattle.world_steps.specs.Steps.{put_with, waiting_with, with_packets};
 
 use crate::client::{Client, put_packets};
+use crate::flight::count_sent;
 use crate::way::put_on;
 use gd_variant::OutOfMemory;
 use peer_core::Peer;
@@ -57,7 +58,7 @@ pub fn effects_of(alloc: Global, outcome: Outcome) -> Effects
 }
 
 /// What one peer did, as the world answers it.
-fn answer_of(alloc: Global, peer: &i32, outcome: Outcome) -> Result<WorldOutcome, OutOfMemory>
+pub fn answer_of(alloc: Global, peer: &i32, outcome: Outcome) -> Result<WorldOutcome, OutOfMemory>
     ensures { IfOk result (λ o. o ≡ peer_answer peer.now outcome) }
 {
     match outcome {
@@ -107,6 +108,7 @@ pub fn send_down(
 pub fn take_at_server(
     server: &mut Peer,
     clients: &mut Vec<Client>,
+    put: &mut u64,
     alloc: Global,
     event: Event,
 ) -> Result<WorldOutcome, OutOfMemory>
@@ -114,9 +116,11 @@ pub fn take_at_server(
     requires sound { is_sound_event event ≡ true }
     ensures server { OnOk result (server.new ≡ (taken packet_form server.old event).kept) }
     ensures clients { OnOk result (clients.new.items ≡ with_packets (packets_in (taken packet_form server.old event).outcome) clients.old.items) }
+    ensures put { OnOk result (put.new ≡ put_with put.old (packets_in (taken packet_form server.old event).outcome)) }
     ensures outcome { IfOk result (λ o. o ≡ peer_answer server_id (taken packet_form server.old event).outcome) }
 {
     let outcome = step(server, alloc, event)?;
+    count_sent(put, &outcome);
     send_down(clients, alloc, &outcome)?;
     answer_of(alloc, &SERVER, outcome)
 }
@@ -124,15 +128,18 @@ pub fn take_at_server(
 /// A client takes an event.
 pub fn take_at_client(
     client: &mut Client,
+    put: &mut u64,
     alloc: Global,
     event: Event,
 ) -> Result<WorldOutcome, OutOfMemory>
     requires built { is_built_event event ≡ true }
     requires sound { is_sound_event event ≡ true }
     ensures client { OnOk result (client.new ≡ record client.old { kept = (taken packet_form client.old.kept event).kept; up = waiting_with client.old.up (packets_in (taken packet_form client.old.kept event).outcome) server_id }) }
+    ensures put { OnOk result (put.new ≡ put_with put.old (packets_in (taken packet_form client.old.kept event).outcome)) }
     ensures outcome { IfOk result (λ o. o ≡ peer_answer client.old.number (taken packet_form client.old.kept event).outcome) }
 {
     let outcome = step(&mut client.peer, alloc, event)?;
+    count_sent(put, &outcome);
     send_up(&mut client.up, alloc, &outcome)?;
     answer_of(alloc, &client.number, outcome)
 }

@@ -22,6 +22,10 @@ pub fn names_are_texts(event: &WorldEvent)
             peer: _,
             op: Op::Spawn(op),
         } => is_whole(&op.name),
+        WorldEvent::Op {
+            peer: _,
+            op: Op::Custom(op),
+        } => is_whole(&op.name),
         _ => {}
     }
 }

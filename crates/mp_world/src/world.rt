@@ -5,17 +5,19 @@ ghost use Rattle.scene_model.specs.Valid.{IsValidScene};
 ghost use Rattle.peer_core.specs.Forms.{packet_form};
 ghost use Rattle.world_model.specs.World.{is_in};
 ghost use Rattle.world_model.specs.Happens.{world};
-ghost use Rattle.world_model.specs.Answers.{happened, world_answer};
+ghost use Rattle.world_model.specs.Answers.{happened, overflows, world_answer};
 ghost use Rattle.world_model.specs.Replicas.{reported};
 ghost use Rattle.mp_world.specs.declared.world.WorldStop.TheVariants as stop;
 ghost use Rattle.mp_world.specs.declared.world.ReportNo.TheVariants as report_no;
 ghost use Rattle.world_steps.specs.Sound.{has_sound_values, is_built_event};
-ghost use Rattle.world_steps.specs.Steps.{has_peer, is_spent, kept_at, kept_report, live_parts, made as made_of, scene_of};
+ghost use Rattle.world_steps.specs.Steps.{has_peer, is_over as is_past, is_spent, kept_at, kept_report, live_parts, made as made_of, scene_of};
 ghost use Rattle.world_steps.specs.Stands.{StandsForScript};
 
 use crate::client::{Client, client_place};
 use crate::connect::connect;
 use crate::deliver::deliver;
+use crate::flight::is_over;
+use crate::going::go_down;
 use crate::operate::operate;
 use crate::steps::{SERVER, is_server};
 use crate::texts::names_are_texts;
@@ -30,8 +32,10 @@ use std::marker::Model;
 pub enum WorldStop {
     /// Memory ran out; the world is spent.
     OutOfMemory,
-    /// An earlier step ran out of memory.
+    /// An earlier step ran out of memory, or of room in flight.
     Spent,
+    /// All packets ever put in flight, those of this event included, have together more than 536,870,912 bytes; the world is spent.
+    PoolFull,
 }
 
 /// Why there is no report.
@@ -48,20 +52,49 @@ fn take(
     server: &mut Peer,
     clients: &mut Vec<Client>,
     come: &mut u32,
+    put: &mut u64,
     alloc: Global,
     event: WorldEvent,
 ) -> Result<WorldOutcome, OutOfMemory>
     requires built { is_built_event event ≡ true }
     requires sound { has_sound_values event ≡ true }
     requires valid { IsValidScene server.old.who.scene }
-    ensures { IfOk result (λ o. record { outcome = o; parts = live_parts server.new come.new clients.new.items } ≡ made_of (live_parts server.old come.old clients.old.items) event) }
+    ensures { IfOk result (λ o. record { outcome = o; parts = live_parts server.new come.new put.new clients.new.items } ≡ made_of (live_parts server.old come.old put.old clients.old.items) event) }
 {
     match event {
-        WorldEvent::Connect => connect(server, clients, come, alloc),
-        WorldEvent::Op { peer, op } => operate(server, clients, alloc, &peer, op),
-        WorldEvent::Rel { from, to } => deliver(server, clients, alloc, &from, &to),
-        WorldEvent::Down(_) | WorldEvent::Loose { .. } | WorldEvent::Forge { .. } => unreachable!(),
+        WorldEvent::Connect => connect(server, clients, come, put, alloc),
+        WorldEvent::Op { peer, op } => operate(server, clients, put, alloc, &peer, op),
+        WorldEvent::Rel { from, to } => deliver(server, clients, put, alloc, &from, &to),
+        WorldEvent::Down(peer) => go_down(server, clients, put, alloc, &peer),
+        WorldEvent::Loose { .. } | WorldEvent::Forge { .. } => unreachable!(),
     }
+}
+
+/// Lets an event happen in a world that isn't spent, where all that is ever put in flight has room then.
+fn take_within(
+    server: &mut Peer,
+    clients: &mut Vec<Client>,
+    come: &mut u32,
+    put: &mut u64,
+    alloc: Global,
+    event: WorldEvent,
+) -> Result<WorldOutcome, WorldStop>
+    requires built { is_built_event event ≡ true }
+    requires sound { has_sound_values event ≡ true }
+    requires valid { IsValidScene server.old.who.scene }
+    ensures made { IfOk result (λ o. record { outcome = o; parts = live_parts server.new come.new put.new clients.new.items } ≡ made_of (live_parts server.old come.old put.old clients.old.items) event) }
+    ensures room { IfOk result (λ _. is_past (made_of (live_parts server.old come.old put.old clients.old.items) event) ≡ false) }
+    ensures full { result ≡ Err stop.PoolFull → is_past (made_of (live_parts server.old come.old put.old clients.old.items) event) ≡ true }
+    ensures live { result ≢ Err stop.Spent }
+{
+    let outcome = match take(server, clients, come, put, alloc, event) {
+        Ok(outcome) => outcome,
+        Err(OutOfMemory) => return Err(WorldStop::OutOfMemory),
+    };
+    if is_over(put) {
+        return Err(WorldStop::PoolFull);
+    }
+    Ok(outcome)
 }
 
 /// What a peer holds.
@@ -84,9 +117,9 @@ fn report_at(
     alloc: Global,
     number: &i32,
 ) -> Result<Report, ReportNo>
-    ensures report { (come : ℕ) → IfOk result (λ r. option_map kept_report (kept_at (live_parts server.now come clients.now.items) number.now) ≡ Some r) }
-    ensures no_peer { (come : ℕ) → result ≡ Err report_no.NoPeer ↔ has_peer (live_parts server.now come clients.now.items) number.now ≡ false }
-    ensures spent { (come : ℕ) → result ≡ Err report_no.Spent → option_map is_spent (kept_at (live_parts server.now come clients.now.items) number.now) ≡ Some true }
+    ensures report { (come put : ℕ) → IfOk result (λ r. option_map kept_report (kept_at (live_parts server.now come put clients.now.items) number.now) ≡ Some r) }
+    ensures no_peer { (come put : ℕ) → result ≡ Err report_no.NoPeer ↔ has_peer (live_parts server.now come put clients.now.items) number.now ≡ false }
+    ensures spent { (come put : ℕ) → result ≡ Err report_no.Spent → option_map is_spent (kept_at (live_parts server.now come put clients.now.items) number.now) ≡ Some true }
 {
     if is_server(number) {
         return report_of(server, alloc);
@@ -97,15 +130,17 @@ fn report_at(
     }
 }
 
-/// The server and its clients, by their numbers, with what waits on their links, and how many clients ever connected.
+/// The server and its clients, by their numbers, with what waits on their links, how many clients ever connected, and
+/// how many bytes were ever put in flight.
 ///
-/// After want of memory it is spent, and says so from then on.
+/// After want of memory, or of room in flight, it is spent, and says so from then on.
 #[derive(Drop)]
 pub struct World {
     spent: bool,
     server: Peer,
     clients: Vec<Client>,
     come: u32,
+    put: u64,
 }
 
 impl Model for World {
@@ -119,7 +154,7 @@ impl Model for World {
 
     ghost coded = { Prim.hlevel (codes, variant.the_row.coded) };
 
-    ghost view = { λ w. record { spent = w.spent; server = w.server; come = w.come; clients = w.clients.items } };
+    ghost view = { λ w. record { spent = w.spent; server = w.server; come = w.come; put = w.put; clients = w.clients.items } };
 
     ghost invariant = { λ w. w.spent ≡ false → IsValidScene w.server.who.scene };
 }
@@ -136,6 +171,7 @@ impl World {
             server: Peer::new(alloc, SERVER, scene)?,
             clients: Vec::new(alloc),
             come: 0,
+            put: 0,
         })
     }
 
@@ -150,6 +186,9 @@ impl World {
         // afterwards it stands for that script with this event, where it happened
         ensures stands { (es : List EventOf) → StandsForScript self.old es → IfOk result (λ o. happened o ≡ true → StandsForScript self.new (event ∷ es)) }
         ensures unchanged { IfOk result (λ o. happened o ≡ false → self.new ≡ self.old) }
+        // it is full exactly where what is ever put in flight with this event has more bytes than there is room for
+        ensures full { (es : List EventOf) → StandsForScript self.old es → result ≡ Err stop.PoolFull → overflows packet_form (scene_of self.old) (world packet_form (scene_of self.old) es) event ≡ true }
+        ensures room { (es : List EventOf) → StandsForScript self.old es → IfOk result (λ _. overflows packet_form (scene_of self.old) (world packet_form (scene_of self.old) es) event ≡ false) }
         ensures scene { OnOk result (scene_of self.new ≡ scene_of self.old) }
         ensures was_spent { result ≡ Err stop.Spent ↔ self.old.spent ≡ true }
         ensures spends { OnErr result (self.new.spent ≡ true) }
@@ -158,17 +197,18 @@ impl World {
             return Err(WorldStop::Spent);
         }
         names_are_texts(&event);
-        match take(
+        match take_within(
             &mut self.server,
             &mut self.clients,
             &mut self.come,
+            &mut self.put,
             alloc,
             event,
         ) {
             Ok(outcome) => Ok(outcome),
-            Err(OutOfMemory) => {
+            Err(stop) => {
                 self.spent = true;
-                Err(WorldStop::OutOfMemory)
+                Err(stop)
             }
         }
     }

@@ -25,6 +25,8 @@ impl LineTaker for Shower {
 
     ghost reasons = { IsHex };
 
+    ghost fills = { ⊥ };
+
     ghost took = { λ s ls. Unit {0} };
 
     ghost known = { NothingKnown };
@@ -75,7 +77,7 @@ impl LineTaker for Shower {
 /// run, whole lines at `ReadFault` and `OutOfMemory`, and some of the first bytes at `WriteFault`. Bytes
 /// that are no packet stop nothing: their line says where they are wrong, and why.
 pub fn show<S: Source, K: Sink>(alloc: Global, source: &mut S, sink: &mut K) -> Status
-    ensures ends { MayEnd IsHex (S.faults source.old) (S.faults source.new) (K.faults sink.old) (K.faults sink.new) result }
+    ensures ends { MayEnd IsHex ⊥ (S.faults source.old) (S.faults source.new) (K.faults sink.old) (K.faults sink.new) result }
     ensures output { (input held : List ℕ) → S.left source.old ≡ Some input → K.held sink.old ≡ Some held → EndsAs (read_in show_command longest_line most_judged input) held result (K.held sink.new) }
 {
     let mut shower = Shower;

@@ -1,6 +1,6 @@
 -- Where spawned nodes stand: below the node of a spawner whose authority is theirs. So nodes of two authorities never have one path.
-use Rattle.std.proofs.Common.{◌≡◌, ℕ, zero, suc, ℤ, Bool, true, false, cond, not, ◌&&◌, ◌||◌, List, [], ◌∷◌, ◌++◌, refl, sym, ap, ◌∙◌, map, nat_eq, is_some, Option, Some, None}
-use Rattle.std.specs.Prelude.{find, slice_get, is_none, option_map, option_and_then, filter_map, if◌then◌else◌}
+use Rattle.std.proofs.Common.{◌≡◌, ℕ, zero, suc, ℤ, Bool, true, false, cond, not, ◌||◌, List, [], ◌∷◌, ◌++◌, refl, sym, ap, ◌∙◌, map, nat_eq, Option, Some, None}
+use Rattle.std.specs.Prelude.{find, slice_get, option_map, option_and_then, filter_map}
 use Rattle.std.specs.List.{list_all, cons_option}
 use Rattle.std.specs.Ordering.{int_eq}
 use Rattle.std.proofs.lemmas.Bool.{and_parts, or_parts}
@@ -8,23 +8,13 @@ use Rattle.gd_variant.specs.Words.{text_eq, has_text, has_nat, some_is}
 use Rattle.scene_model.specs.declared.scene.Scene.{Scene}
 use Rattle.scene_model.specs.declared.scene.Node.{Node}
 use Rattle.scene_model.specs.declared.scene.SpawnerDef.{SpawnerDef}
-use Rattle.scene_model.specs.declared.event.SpawnOp.{SpawnOp}
-use Rattle.scene_model.specs.declared.event.Op.TheVariants.{Spawn}
 use Rattle.scene_model.specs.Paths.{slash, forbidden, is_name, joined, parent_step, parent_of}
-use Rattle.scene_model.specs.Lookup.{fixed_node, spawner_of, spawner_at}
+use Rattle.scene_model.specs.Lookup.{spawner_of}
 use Rattle.scene_model.specs.Valid.{IsValidScene, has_twice}
-use Rattle.peer_model.specs.Heard.{Who, Heard, does}
-use Rattle.peer_model.specs.Rows.{spawned_path}
-use Rattle.peer_model.specs.Refusals.{owns, may_make}
 use Rattle.peer_model.specs.Updates.{Live}
-use Rattle.peer_model.specs.View.{node_at, authorities}
-use Rattle.peer_model.proofs.Nodes.{fixed_is_there}
 use Rattle.scene_model.proofs.TextLaws.{text_eq-true, text_eq-same}
-use Rattle.peer_laws.specs.Built.{Accepts}
-use Rattle.peer_laws.proofs.Tests.{not_false, never, then_some, some_of, or_true, some_from}
-use Rattle.peer_laws.proofs.Numbers.{int_is}
+use Rattle.peer_laws.proofs.Tests.{never, or_true}
 use Rattle.peer_laws.proofs.Scenes.{unders_apart}
-use Rattle.peer_laws.proofs.TreeSpawns.{spawn_is_allowed}
 
 -- names have no slash
 
@@ -106,46 +96,6 @@ only_spawner s v i n d h e = ap (option_map (λ (m : Node). m.auth)) (found_belo
 -- what a spawner spawns stands where its authority's nodes do
 pub home_of : (s : Scene) → IsValidScene s → (i : ℕ) (n : Node) (d : SpawnerDef) (name : List ℕ) → slice_get s.nodes i ≡ Some n → spawner_of n ≡ Some d → is_name name ≡ true → home_authority s (joined d.under name) ≡ Some n.auth
 home_of s v i n d name h e k = ap (option_and_then (authority_below s)) (parent_joined d.under name k) ∙ only_spawner s v i n d h e
-
--- what is known of an accepted spawn's spawner
-
--- the fixed node at which an authority spawns a scene that the node's spawner lists
-pub record IsMaker (s : Scene) (a : ℤ) (o : SpawnOp) : Type 0 where
-  pub node : Node
-  pub def : SpawnerDef
-  pub there : fixed_node s o.spawner ≡ Some node
-  pub role : spawner_of node ≡ Some def
-  pub auth : node.auth ≡ a
-  pub name : List ℕ
-  pub scene : o.scene ≡ Some name
-  pub listed : has_text name def.scenes ≡ true
-
-pub maker : (who : Who) (es : List Heard) (o : SpawnOp) → Accepts who es (does (Spawn o)) → IsMaker who.scene who.id o
-maker who es o h =
-    let allowed = spawn_is_allowed who es o h in
-    let def = some_of (spawner_at who.scene o.spawner) (some_from (spawner_at who.scene o.spawner) allowed.spawner) in
-    let node = then_some spawner_of (fixed_node who.scene o.spawner) def.0 def.1 in
-    let name = some_of o.scene (and_parts (is_some o.scene) (is_none o.arg) h.built).0 in
-    record {
-      node = node.0;
-      def = def.0;
-      there = node.1;
-      role = node.2;
-      auth = int_is node.0.auth who.id (sym (ap (owns who) (fixed_is_there who es o.spawner node.0 node.1)) ∙ not_false (owns who (node_at who es o.spawner)) allowed.owned);
-      name = name.0;
-      scene = name.1;
-      listed = makes_listed def.0 name.0 name.1 (sym (ap (some_is (may_make o)) def.1) ∙ not_false (some_is (may_make o) (spawner_at who.scene o.spawner)) allowed.scene);
-    }
-  where
-    makes_listed : (d : SpawnerDef) (name : List ℕ) → o.scene ≡ Some name → may_make o d ≡ true → has_text name d.scenes ≡ true
-    makes_listed d name e k = sym (may_is e) ∙ k
-      where
-        may_is : o.scene ≡ Some name → may_make o d ≡ has_text name d.scenes
-        may_is f = rw f refl
-
--- the path of a spawned node
-pub spawned_path_is : (who : Who) (o : SpawnOp) (d : SpawnerDef) → spawner_at who.scene o.spawner ≡ Some d → spawned_path who o ≡ joined d.under o.name
-spawned_path_is who o d e = rw e refl
 
 -- nodes of the tree
 

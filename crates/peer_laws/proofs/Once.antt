@@ -8,7 +8,7 @@ use Rattle.gd_variant.specs.Words.{text_eq, has_text, some_is, put_by}
 use Rattle.scene_model.specs.Valid.{has_twice}
 use Rattle.scene_model.proofs.ListLaws.{any-put_by, found_is_any, any-map, any_ext}
 use Rattle.scene_model.proofs.TextLaws.{text_eq-true, text_eq-sym}
-use Rattle.headless_tree.specs.Lists.{change_first}
+use Rattle.headless_tree.specs.Lists.{change_first, without_first}
 
 -- a search by a text finds something where the text stands
 pub found_is_has : {X : Type 0} (key : X → List ℕ) (t : List ℕ) (xs : List X) → is_some (find (λ x. text_eq (key x) t) xs) ≡ has_text t (map key xs)
@@ -107,6 +107,25 @@ change_once key t f (x ∷ xs) h = step (text_eq (key x) t) refl (change_once ke
     step : (b : Bool) → text_eq (key x) t ≡ b → change_first (λ y. text_eq (key y) t) f xs ≡ map (change_if key t f) xs
         → cond b (f x ∷ xs) (x ∷ change_first (λ y. text_eq (key y) t) f xs) ≡ cond b (f x) x ∷ map (change_if key t f) xs
     step true e more = ap (λ ys. f x ∷ ys) (sym (unchanged key t f xs (ap (λ u. has_text u (map key xs)) (sym (text_eq-true (key x) t e)) ∙ parts.0)))
+    step false e more = ap (λ ys. x ∷ ys) more
+
+-- where no text stands twice, the list without the first element with a text has none with it
+pub without_once : {X : Type 0} (key : X → List ℕ) (t : List ℕ) (xs : List X) → has_twice (map key xs) ≡ false → without_first (λ x. text_eq (key x) t) xs ≡ filter (λ x. not (text_eq (key x) t)) xs
+without_once key t [] h = refl
+without_once {X = X} key t (x ∷ xs) h = step (text_eq (key x) t) refl (without_once key t xs parts.1)
+  where
+    parts : (has_text (key x) (map key xs) ≡ false) × (has_twice (map key xs) ≡ false)
+    parts = or_parts (has_text (key x) (map key xs)) (has_twice (map key xs)) h
+
+    left : (ys : List X) → has_text t (map key ys) ≡ false → filter (λ y. not (text_eq (key y) t)) ys ≡ ys
+    left [] n = refl
+    left (y ∷ ys) n =
+        let both = or_parts (text_eq t (key y)) (has_text t (map key ys)) n in
+        ap₂ (λ b zs. cond (not b) (y ∷ zs) zs) (text_eq-sym (key y) t ∙ both.0) (left ys both.1)
+
+    step : (b : Bool) → text_eq (key x) t ≡ b → without_first (λ y. text_eq (key y) t) xs ≡ filter (λ y. not (text_eq (key y) t)) xs
+        → cond b xs (x ∷ without_first (λ y. text_eq (key y) t) xs) ≡ cond (not b) (x ∷ filter (λ y. not (text_eq (key y) t)) xs) (filter (λ y. not (text_eq (key y) t)) xs)
+    step true e more = sym (left xs (ap (λ u. has_text u (map key xs)) (sym (text_eq-true (key x) t e)) ∙ parts.0))
     step false e more = ap (λ ys. x ∷ ys) more
 
 none_there : {X : Type 0} (key : X → List ℕ) (t : List ℕ) (q : X → Bool) (xs : List X) → has_text t (map key xs) ≡ false → list_all (λ x. not (text_eq (key x) t) || q x) xs ≡ true

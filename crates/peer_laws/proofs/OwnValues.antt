@@ -1,40 +1,34 @@
 -- The values of an own row stand in the tree, so that the packet that shows it has them.
-use Rattle.std.proofs.Common.{◌≡◌, ℕ, ℤ, Bool, true, false, cond, ◌||◌, List, [], ◌∷◌, refl, sym, ap, ◌∙◌, map, Some, None}
+use Rattle.std.proofs.Common.{◌≡◌, ℕ, suc, ℤ, Bool, true, false, cond, ◌||◌, List, [], ◌∷◌, refl, sym, ap, ◌∙◌, map, filter, arith, Option, Some, None}
 use Rattle.std.specs.Prelude.{find, flat_map, option_map, option_and_then, if◌then◌else◌}
-use Rattle.std.specs.List.{list_all, list_any, All, Contains, AllByRecursion}
+use Rattle.std.specs.List.{list_all, All, Contains, AllByRecursion}
 use Rattle.std.specs.Ordering.{int_eq}
 use Rattle.std.proofs.lemmas.List.Elements.{All-from_recursion, All-contains}
-use Rattle.std.proofs.lemmas.List.Folds.{list_any-append}
-use Rattle.std.proofs.lemmas.List.{map-append}
-use Rattle.std.proofs.lemmas.Bool.{or_parts}
+use Rattle.std.proofs.lemmas.Bool.{true≢false, or_parts}
 use Rattle.std.proofs.lemmas.List.Sums.{AllPass-from_list_all}
 use Rattle.gd_variant.specs.Words.{text_eq, has_text, or_else}
 use Rattle.gd_variant.specs.declared.value.Variant.TheVariants.{Nil}
 use Rattle.scene_model.specs.declared.scene.Prop.{Prop}
-use Rattle.scene_model.specs.declared.event.SpawnOp.{SpawnOp}
-use Rattle.scene_model.specs.declared.event.Op.TheVariants.{Spawn}
 use Rattle.scene_model.specs.Lookup.{scene_at, has_prop, value_in}
 use Rattle.scene_model.specs.Valid.{IsValidScene, has_twice}
-use Rattle.peer_model.specs.Heard.{Who, Heard, does}
-use Rattle.peer_model.specs.Rows.{OwnRow, own_rows, syncs_at, row_made, spawned_path}
+use Rattle.scene_model.proofs.TextLaws.{text_eq-sym, text_eq-true, text_eq-same}
+use Rattle.peer_model.specs.Heard.{Who, Heard}
+use Rattle.peer_model.specs.Rows.{OwnRow, own_rows, syncs_at}
 use Rattle.peer_model.specs.Values.{own_value, props_in}
 use Rattle.peer_model.specs.Updates.{Live, Show, live_at, all_spawn_props}
 use Rattle.peer_model.specs.Changes.{show_of}
-use Rattle.peer_model.specs.View.{view, own_values, own_live, fixed_now, rows_of, authorities, tree_of}
+use Rattle.peer_model.specs.View.{view, own_values, own_live, fixed_now, rows_of, authorities, tree_of, node_at}
 use Rattle.peer_model.specs.Answer.{update_packet}
-use Rattle.scene_model.proofs.TextLaws.{text_eq-sym, text_eq-true, text_eq-same}
-use Rattle.scene_model.proofs.ListLaws.{any-map, found_is_any}
-use Rattle.headless_tree.specs.Nodes.{value_at}
-use Rattle.peer_laws.specs.Built.{Accepts}
+use Rattle.peer_model.proofs.Nodes.{this_is_there}
+use Rattle.headless_tree.specs.Nodes.{value_at, is_row_of}
+use Rattle.peer_laws.specs.Built.{AllAccepted}
+use Rattle.peer_laws.proofs.Numbers.{int_same}
+use Rattle.peer_laws.proofs.Views.{tree_rows_under, this_among}
 use Rattle.peer_laws.specs.Facts.{Facts, paths_of}
 use Rattle.peer_laws.specs.Shown.{show_packet}
 use Rattle.peer_laws.proofs.Joined.{map_agree}
 use Rattle.peer_laws.proofs.Each.{of_each, every_right, every_of, every_unmapped}
-use Rattle.peer_laws.proofs.Places.{find_past, find_among}
-use Rattle.peer_laws.proofs.Rows.{rows_spawn}
 use Rattle.peer_laws.proofs.Scenes.{spawn_props_named}
-use Rattle.peer_laws.proofs.TreeSpawns.{spawn_is_allowed}
-use Rattle.peer_model.proofs.Nodes.{this_is_there}
 
 -- nodes whose paths are apart are found by them
 
@@ -66,6 +60,42 @@ own_row_there who es facts r has =
     let P : OwnRow → Type 0 = λ (x : OwnRow). live_at (tree_of who es) x.path ≡ Some (own_live who es x) in
     All-contains P (own_rows who es) r (All-from_recursion P (own_rows who es) (own_found who es facts.apart)) has
 
+-- what a search finds is found among what passes another test, where it passes that
+find_kept : {X : Type 0} (p q : X → Bool) (xs : List X) (x : X) → find p xs ≡ Some x → q x ≡ true → find p (filter q xs) ≡ Some x
+find_kept p q [] x h k = absurd (cc h)
+find_kept p q (y ∷ ys) x h k = step (p y) refl (q y) refl (λ l. find_kept p q ys x l k) h
+  where
+    step : (a : Bool) → p y ≡ a → (b : Bool) → q y ≡ b → (find p ys ≡ Some x → find p (filter q ys) ≡ Some x) → cond a (Some y) (find p ys) ≡ Some x → find p (cond b (y ∷ filter q ys) (filter q ys)) ≡ Some x
+    step true e true f more l = ap (λ c. cond c (Some y) (find p (filter q ys))) e ∙ l
+    step true e false f more l = let same : y ≡ x = cc in absurd (true≢false (sym k ∙ ap q (sym same) ∙ f))
+    step false e true f more l = ap (λ c. cond c (Some y) (find p (filter q ys))) e ∙ more l
+    step false e false f more l = more l
+
+pub find_mapped : {X Y : Type 0} (p : Y → Bool) (f : X → Y) (xs : List X) → find p (map f xs) ≡ option_map f (find (λ x. p (f x)) xs)
+find_mapped p f [] = refl
+find_mapped p f (x ∷ xs) = elim (p (f x)) as (λ b. cond b (Some (f x)) (find p (map f xs)) ≡ option_map f (cond b (Some x) (find (λ y. p (f y)) xs))) [ true ↦ refl | false ↦ find_mapped p f xs ]
+
+some_mapped : {X Y : Type 0} (f : X → Y) (o : Option X) (y : Y) → option_map f o ≡ Some y → (x : X) × (o ≡ Some x) × (f x ≡ y)
+some_mapped f None y h = absurd (cc h)
+some_mapped f (Some x) y h = (x, refl, cc)
+
+pub find_contains : {X : Type 0} (p : X → Bool) (xs : List X) (x : X) → find p xs ≡ Some x → Contains xs x
+find_contains p [] x h = absurd (cc h)
+find_contains p (y ∷ ys) x h = step (p y) h (λ l. find_contains p ys x l)
+  where
+    step : (b : Bool) → cond b (Some y) (find p ys) ≡ Some x → (find p ys ≡ Some x → Contains ys x) → Contains (y ∷ ys) x
+    step true l more = let same : y ≡ x = cc in (0, omega arith, same)
+    step false l more = let w = more l in let low = w.1 in (suc w.0, omega (arith, low), w.2)
+
+-- where a spawned node of this peer stands, it is an own row
+pub own_row_at : (who : Who) (es : List Heard) → IsValidScene who.scene → AllAccepted who es → Facts who es → (path : List ℕ) (n : Live) → node_at who es path ≡ Some n → is_row_of who.id n ≡ true
+    → (r : OwnRow) × (find (λ (r : OwnRow). text_eq r.path path) (own_rows who es) ≡ Some r) × (own_live who es r ≡ n)
+own_row_at who es v all f path n there own =
+    some_mapped (own_live who es) (find (λ (r : OwnRow). text_eq r.path path) (own_rows who es)) n
+    (sym (find_mapped (λ (m : Live). text_eq m.path path) (own_live who es) (own_rows who es))
+    ∙ ap (find (λ (m : Live). text_eq m.path path)) (sym (tree_rows_under who es v all f who.id (this_among who es) ∙ rows_here who es who.id (int_same who.id)))
+    ∙ find_kept (λ (m : Live). text_eq m.path path) (is_row_of who.id) (tree_of who es) n there own)
+
 -- values
 
 own_value_in : (who : Who) (es : List Heard) (path p : List ℕ) (props : List Prop) → has_prop p props ≡ true → value_in (own_values who es path props) p ≡ Some (own_value who es path p)
@@ -81,10 +111,6 @@ own_value_in who es path p (q ∷ qs) h = step (text_eq q.name p) refl (sym (ap 
 pub value_there : (who : Who) (es : List Heard) (nodes : List Live) (r : OwnRow) → live_at nodes r.path ≡ Some (own_live who es r) → (p : List ℕ) → has_prop p (props_in (scene_at who.scene r.place)) ≡ true → value_at nodes r.path p ≡ Some (own_value who es r.path p)
 value_there who es nodes r there p h = ap (option_and_then (λ (n : Live). value_in n.values p)) there ∙ own_value_in who es r.path p (props_in (scene_at who.scene r.place)) h
 
--- an own row's properties have their own values in the tree
-pub own_value_there : (who : Who) (es : List Heard) → Facts who es → (r : OwnRow) → Contains (own_rows who es) r → (p : List ℕ) → has_prop p (props_in (scene_at who.scene r.place)) ≡ true → value_at (tree_of who es) r.path p ≡ Some (own_value who es r.path p)
-own_value_there who es facts r has p h = value_there who es (tree_of who es) r (own_row_there who es facts r has) p h
-
 -- what a Show says of an own row that stands at its path are the values in the tree
 pub shown_from : (who : Who) (es : List Heard) (nodes : List Live) (r : OwnRow) → IsValidScene who.scene → live_at nodes r.path ≡ Some (own_live who es r) → update_packet (Show (show_of who es r)) ≡ show_packet who nodes r
 shown_from who es nodes r valid there =
@@ -96,37 +122,3 @@ shown_from who es nodes r valid there =
     each_agrees : (ps : List (List ℕ)) → list_all (λ p. has_prop p (props_in (scene_at who.scene r.place))) ps ≡ true → All (λ p. own_value who es r.path p ≡ or_else (value_at nodes r.path p) Nil) ps
     each_agrees ps h = of_each (λ p. own_value who es r.path p ≡ or_else (value_at nodes r.path p) Nil) ps
         (λ p has. sym (ap (λ o. or_else o Nil) (value_there who es nodes r there p (All-contains (λ x. has_prop x (props_in (scene_at who.scene r.place)) ≡ true) ps p (AllPass-from_list_all (λ x. has_prop x (props_in (scene_at who.scene r.place))) ps h) has))))
-
--- the row that a spawn makes
-
-spawned_last : (who : Who) (es : List Heard) (o : SpawnOp) → list_any (λ (n : Live). text_eq n.path (spawned_path who o)) (map (own_live who es) (own_rows who es)) ≡ false
-    → find (λ (n : Live). text_eq n.path (spawned_path who o)) (map (own_live who (does (Spawn o) ∷ es)) (own_rows who (does (Spawn o) ∷ es))) ≡ Some (own_live who (does (Spawn o) ∷ es) (row_made who es o))
-spawned_last who es o h =
-    let q : Live → Bool = λ (n : Live). text_eq n.path (spawned_path who o) in
-    let live : OwnRow → Live = own_live who (does (Spawn o) ∷ es) in
-    let r = row_made who es o in
-    ap (λ rs. find q (map live rs)) (rows_spawn who es o)
-    ∙ ap (find q) (map-append live (own_rows who es) (r ∷ []))
-    ∙ find_past q (map live (own_rows who es)) (live r ∷ []) (any-map q live (own_rows who es) ∙ sym (any-map q (own_live who es) (own_rows who es)) ∙ h)
-    ∙ ap (λ b. cond b (Some (live r)) None) (text_eq-same (spawned_path who o))
-
-spawned_among : (who : Who) (es : List Heard) (o : SpawnOp) → list_any (λ (n : Live). text_eq n.path (spawned_path who o)) (flat_map (rows_of who es) (authorities who es)) ≡ false
-    → find (λ (n : Live). text_eq n.path (spawned_path who o)) (flat_map (rows_of who (does (Spawn o) ∷ es)) (authorities who es)) ≡ Some (own_live who (does (Spawn o) ∷ es) (row_made who es o))
-spawned_among who es o h =
-    let q : Live → Bool = λ (n : Live). text_eq n.path (spawned_path who o) in
-    let later = does (Spawn o) ∷ es in
-    find_among q (rows_of who es) (rows_of who later) (λ c. int_eq c who.id) (own_live who later (row_made who es o))
-    (λ c e. ap (λ b. if b then map (own_live who later) (own_rows who later) else (view who es c).rows) e ∙ sym (ap (λ b. if b then map (own_live who es) (own_rows who es) else (view who es c).rows) e))
-    (λ c e fails. ap (find q) (rows_here who later c e) ∙ spawned_last who es o (ap (list_any q) (sym (rows_here who es c e)) ∙ fails))
-    (authorities who es) (this_is_there who es) h
-
--- after an accepted spawn its row stands at its path
-pub spawned_there : (who : Who) (es : List Heard) (o : SpawnOp) → Accepts who es (does (Spawn o)) → live_at (tree_of who (does (Spawn o) ∷ es)) (spawned_path who o) ≡ Some (own_live who (does (Spawn o) ∷ es) (row_made who es o))
-spawned_there who es o a =
-    let q : Live → Bool = λ (n : Live). text_eq n.path (spawned_path who o) in
-    let later = does (Spawn o) ∷ es in
-    let free = or_parts (list_any q (map (fixed_now who es) who.scene.nodes)) (list_any q (flat_map (rows_of who es) (authorities who es)))
-    (sym (list_any-append q (map (fixed_now who es) who.scene.nodes) (flat_map (rows_of who es) (authorities who es))) ∙ sym (found_is_any q (tree_of who es)) ∙ (spawn_is_allowed who es o a).free) in
-    find_past q (map (fixed_now who later) who.scene.nodes) (flat_map (rows_of who later) (authorities who later))
-    (any-map q (fixed_now who later) who.scene.nodes ∙ sym (any-map q (fixed_now who es) who.scene.nodes) ∙ free.0)
-    ∙ spawned_among who es o free.1

@@ -1,10 +1,10 @@
 -- A test on values that the scene's defaults and all that is assigned pass, own values pass.
-use Rattle.std.proofs.Common.{◌≡◌, ℕ, Bool, true, false, not, ◌&&◌, List, [], ◌∷◌, refl, ap, ◌∙◌, reverse, Option, Some, None, Ok, Err}
-use Rattle.std.specs.Prelude.{find, option_map, option_and_then, cond, if◌then◌else◌}
+use Rattle.std.proofs.Common.{◌≡◌, ℕ, Bool, true, false, not, ◌&&◌, List, [], ◌∷◌, refl, sym, ap, ◌∙◌, reverse, is_some, Option, Some, None, Ok, Err}
+use Rattle.std.specs.Prelude.{find, is_none, option_map, option_and_then, cond, if◌then◌else◌}
 use Rattle.std.specs.List.{list_any, list_all}
-use Rattle.std.proofs.lemmas.Bool.{and_parts, and_from, or_parts}
+use Rattle.std.proofs.lemmas.Bool.{true≢false, and_parts, and_from, or_parts}
 use Rattle.std.proofs.lemmas.Grind.{reverse_onto}
-use Rattle.gd_variant.specs.Words.{text_eq, or_else, first_some}
+use Rattle.gd_variant.specs.Words.{text_eq, some_is, or_else, first_some}
 use Rattle.gd_variant.specs.declared.value.Variant.{Variant}
 use Rattle.gd_variant.specs.declared.value.Variant.TheVariants.{Nil}
 use Rattle.gd_variant.specs.declared.message.Plain.TheVariants as packet
@@ -13,19 +13,17 @@ use Rattle.scene_model.specs.declared.scene.Node.{Node}
 use Rattle.scene_model.specs.declared.scene.SceneDef.{SceneDef}
 use Rattle.scene_model.specs.declared.scene.Prop.{Prop}
 use Rattle.scene_model.specs.declared.event.SpawnOp.{SpawnOp}
-use Rattle.scene_model.specs.declared.event.Op.TheVariants.{Spawn, Set}
+use Rattle.scene_model.specs.declared.event.Op.TheVariants.{Spawn, Custom, Despawn, Set, Public, For, Filter}
 use Rattle.scene_model.specs.Lookup.{fixed_node, scene_at, value_in}
 use Rattle.scene_model.specs.Valid.{IsValidScene, node_why, scene_why, value_long}
 use Rattle.peer_model.specs.Heard.{Who, Heard, does, comes, goes, gets}
 use Rattle.peer_model.specs.Rows.{spawned_path, spawned_scene}
-use Rattle.peer_model.specs.Values.{own_value, default_value, start_value, argument_for, scene_made, props_in, assigns}
-use Rattle.peer_laws.specs.Built.{Accepts, AllAccepted}
+use Rattle.peer_model.specs.Values.{own_value, default_value, start_value, argument_for, argument_prop, scene_made, props_in, assigns}
+use Rattle.headless_tree.proofs.Numbered.{unnot, all_at}
+use Rattle.peer_laws.specs.Built.{Accepts, AllAccepted, is_empty}
 use Rattle.peer_laws.proofs.Places.{all_found}
 use Rattle.peer_laws.proofs.Each.{all_joined}
-use Rattle.headless_tree.proofs.Numbered.{unnot, all_at}
 use Rattle.peer_laws.proofs.Scenes.{nodes_right, scenes_right, right_node, right_def, all_right}
-use Rattle.peer_laws.proofs.SpawnValues.{no_argument}
-use Rattle.peer_laws.proofs.TreeSpawns.{spawn_has_no_argument}
 
 -- a test that Nil passes, and each default of a valid scene
 pub record IsPassed (ok : Variant → Bool) : Type 0 where
@@ -36,9 +34,15 @@ pub record IsPassed (ok : Variant → Bool) : Type 0 where
 abbrev pub passes : (Variant → Bool) → Prop → Bool
 passes ok p = ok p.value
 
+-- whether a value passes, where there is one
+abbrev pub ok_if : (Variant → Bool) → Option Variant → Bool
+ok_if ok None = true
+ok_if ok (Some v) = ok v
+
 -- what an event assigns passes
 abbrev pub AssignsPassed : (Variant → Bool) → Heard → Type 0
 AssignsPassed ok (does (Spawn o)) = list_all (passes ok) o.sets ≡ true
+AssignsPassed ok (does (Custom o)) = ok_if ok o.arg ≡ true
 AssignsPassed ok (does (Set path prop value)) = ok value ≡ true
 AssignsPassed ok e = Unit {0}
 
@@ -46,11 +50,6 @@ AssignsPassed ok e = Unit {0}
 abbrev pub AllAssignPassed : (Variant → Bool) → List Heard → Type 0
 AllAssignPassed ok [] = Unit {0}
 AllAssignPassed ok (e ∷ es) = AssignsPassed ok e × AllAssignPassed ok es
-
--- whether a value passes, where there is one
-abbrev ok_if : (Variant → Bool) → Option Variant → Bool
-ok_if ok None = true
-ok_if ok (Some v) = ok v
 
 else_passes : (ok : Variant → Bool) (o : Option Variant) (d : Variant) → ok_if ok o ≡ true → ok d ≡ true → ok (or_else o d) ≡ true
 else_passes ok None d h k = k
@@ -118,24 +117,45 @@ made_passes ok k who v o = step (spawned_scene who o)
 
 -- events
 
-start_passes : (ok : Variant → Bool) → IsPassed ok → (who : Who) (es : List Heard) (o : SpawnOp) → IsValidScene who.scene → Accepts who es (does (Spawn o)) → list_all (passes ok) o.sets ≡ true → (prop : List ℕ) → ok (start_value who o prop) ≡ true
-start_passes ok k who es o v h s prop =
+start_passes : (ok : Variant → Bool) → IsPassed ok → (who : Who) (o : SpawnOp) → IsValidScene who.scene → list_all (passes ok) o.sets ≡ true → ok_if ok o.arg ≡ true → (prop : List ℕ) → ok (start_value who o prop) ≡ true
+start_passes ok k who o v s a prop =
     let set = value_in (reverse o.sets) prop in
     let argument = argument_for who o prop in
     let default = value_in (props_in (scene_made who o)) prop in
     else_passes ok (first_some set (first_some argument default)) Nil
     (first_passes ok set (first_some argument default)
     (value_in_passes ok (reverse o.sets) prop (reverse_passes ok o.sets s))
-    (first_passes ok argument default (ap (ok_if ok) (no_argument who o prop (spawn_has_no_argument who es o h))) (value_in_passes ok (props_in (scene_made who o)) prop (made_passes ok k who v o)))) k.nil
+    (first_passes ok argument default (given (some_is (text_eq prop) (argument_prop who o)) o.arg a) (value_in_passes ok (props_in (scene_made who o)) prop (made_passes ok k who v o)))) k.nil
+  where
+    given : (b : Bool) (arg : Option Variant) → ok_if ok arg ≡ true → ok_if ok (if b then arg else None) ≡ true
+    given true arg h = h
+    given false arg h = refl
+
+-- a spawn by scene has no argument, and a custom one no settings
+
+no_argument : (ok : Variant → Bool) (o : Option Variant) → is_none o ≡ true → ok_if ok o ≡ true
+no_argument ok None h = refl
+no_argument ok (Some v) h = absurd (cc h)
+
+no_sets : (ok : Variant → Bool) (sets : List Prop) → is_empty sets ≡ true → list_all (passes ok) sets ≡ true
+no_sets ok [] h = refl
+no_sets ok (p ∷ ps) h = absurd (cc h)
 
 assigned_passes : (ok : Variant → Bool) → IsPassed ok → (who : Who) (es : List Heard) (e : Heard) → IsValidScene who.scene → Accepts who es e → AssignsPassed ok e → (path prop : List ℕ) → ok_if ok (assigns who es e path prop) ≡ true
-assigned_passes ok k who es (does (Spawn o)) v h s path prop = if_passes ok (text_eq (spawned_path who o) path) (start_value who o prop) (start_passes ok k who es o v h s prop)
+assigned_passes ok k who es (does (Spawn o)) v h s path prop = if_passes ok (text_eq (spawned_path who o) path) (start_value who o prop) (start_passes ok k who o v s (no_argument ok o.arg (and_parts (is_some o.scene) (is_none o.arg) h.built).1) prop)
+assigned_passes ok k who es (does (Custom o)) v h s path prop =
+    if_passes ok (text_eq (spawned_path who o) path) (start_value who o prop) (start_passes ok k who o v (no_sets ok o.sets (and_parts (is_empty o.sets) (is_some o.arg) (and_parts (is_none o.scene) (is_empty o.sets && is_some o.arg) h.built).1).0) s prop)
 assigned_passes ok k who es (does (Set p q value)) v h s path prop = if_passes ok (text_eq p path && text_eq q prop) value s
-assigned_passes ok k who es (does op) v h s path prop = absurd (cc h.built)
+assigned_passes ok k who es (does (Despawn p)) v h s path prop = refl
+assigned_passes ok k who es (does (Public p n on)) v h s path prop = refl
+assigned_passes ok k who es (does (For p n b on)) v h s path prop = refl
+assigned_passes ok k who es (does (Filter p n bs)) v h s path prop = refl
+assigned_passes ok k who es (does op) v h s path prop = absurd (true≢false (sym h.built))
 assigned_passes ok k who es (comes b) v h s path prop = refl
 assigned_passes ok k who es (goes b) v h s path prop = refl
 assigned_passes ok k who es (gets from class bytes (Ok (plain_packet (packet.Spawn scene spawner net syncs name arg values)))) v h s path prop = refl
-assigned_passes ok k who es (gets from class bytes (Ok m)) v h s path prop = absurd (cc h.built)
+assigned_passes ok k who es (gets from class bytes (Ok (plain_packet (packet.Despawn net)))) v h s path prop = refl
+assigned_passes ok k who es (gets from class bytes (Ok m)) v h s path prop = absurd (true≢false (sym h.built))
 assigned_passes ok k who es (gets from class bytes (Err bad)) v h s path prop = refl
 
 -- each own value passes

@@ -1,4 +1,4 @@
--- The values with which a spawned node begins: its scene's, and then the settings in order.
+-- The values with which a spawned node begins: its scene's, then the argument, and then the settings in order.
 use Rattle.std.proofs.Common.{◌≡◌, ℕ, zero, suc, Bool, true, false, cond, List, [], ◌∷◌, ◌++◌, refl, sym, ap, ap₂, ◌∙◌, map, reverse, Option, Some, None}
 use Rattle.std.specs.Prelude.{find, slice_get, option_map, if◌then◌else◌}
 use Rattle.std.proofs.lemmas.Grind.{reverse_onto}
@@ -12,7 +12,7 @@ use Rattle.scene_model.specs.Lookup.{value_in, prop_names}
 use Rattle.scene_model.specs.Valid.{has_twice}
 use Rattle.peer_model.specs.Heard.{Who}
 use Rattle.peer_model.specs.Values.{start_value, scene_made, props_in, argument_prop, argument_for}
-use Rattle.peer_model.specs.Updates.{assign, assign_all}
+use Rattle.peer_model.specs.Updates.{assign, assign_all, assign_argument}
 use Rattle.scene_model.proofs.TextLaws.{text_eq-sym, text_eq-same}
 use Rattle.scene_model.proofs.ListLaws.{any-map}
 use Rattle.peer_laws.specs.Shown.{settings}
@@ -83,26 +83,56 @@ assigned_last (s ∷ ss) props =
     ∙ map-map (last_set ss) (λ (p : Prop). if text_eq p.name s.name then record p { value = s.value } else p) props
     ∙ map_each (λ (p : Prop). last_set ss (if text_eq p.name s.name then record p { value = s.value } else p)) (last_set (s ∷ ss)) props (one_more s ss)
 
-pub no_argument : (who : Who) (o : SpawnOp) (prop : List ℕ) → o.arg ≡ None → argument_for who o prop ≡ None
-no_argument who o prop h = elim (some_is (text_eq prop) (argument_prop who o)) as (λ b. (if b then o.arg else None) ≡ None) [ true ↦ h | false ↦ refl ]
+-- a property with a custom spawn's argument, where it is the one that takes it
+abbrev pub with_argument : Option (List ℕ) → Option Variant → Prop → Prop
+with_argument name arg p = record p { value = or_else (if some_is (text_eq p.name) name then arg else None) p.value }
 
-begins : (u : Option Variant) (v : Variant) → or_else (first_some u (Some v)) Nil ≡ or_else u v
-begins None v = refl
-begins (Some w) v = refl
+unargued : (name : Option (List ℕ)) (props : List Prop) → props ≡ map (with_argument name None) props
+unargued name [] = refl
+unargued name (p ∷ ps) = ap₂ (λ v qs. record p { value = v } ∷ qs) (step (some_is (text_eq p.name) name)) (unargued name ps)
+  where
+    step : (b : Bool) → p.value ≡ or_else (if b then None else None) p.value
+    step true = refl
+    step false = refl
 
--- a property of a node that is spawned by scene begins with its last setting, else with the scene's value
-pub start_is : (who : Who) (o : SpawnOp) → o.arg ≡ None → has_twice (prop_names (props_in (scene_made who o))) ≡ false → (i : ℕ) (p : Prop) → slice_get (props_in (scene_made who o)) i ≡ Some p
-    → start_value who o p.name ≡ or_else (value_in (reverse o.sets) p.name) p.value
-start_is who o none apart i p here =
-    ap₂ (λ a v. or_else (first_some (value_in (reverse o.sets) p.name) (first_some a v)) Nil) (no_argument who o p.name none) (value_of_prop (props_in (scene_made who o)) i p apart here)
-    ∙ begins (value_in (reverse o.sets) p.name) p.value
+unnamed : (arg : Option Variant) (props : List Prop) → props ≡ map (with_argument None arg) props
+unnamed arg [] = refl
+unnamed arg (p ∷ ps) = ap (λ qs. p ∷ qs) (unnamed arg ps)
+
+-- an argument gives its value to the property that takes it
+pub argument_given : (name : Option (List ℕ)) (arg : Option Variant) (props : List Prop) → assign_argument name arg props ≡ map (with_argument name arg) props
+argument_given (Some name) (Some value) props = map_each (λ (p : Prop). if text_eq p.name name then record p { value = value } else p) (with_argument (Some name) (Some value)) props (λ p. step p (text_eq p.name name))
+  where
+    step : (p : Prop) (b : Bool) → ◌≡◌ {A = Prop} (if b then record p { value = value } else p) (record p { value = or_else (if b then Some value else None) p.value })
+    step p true = refl
+    step p false = refl
+argument_given (Some name) None props = unargued (Some name) props
+argument_given None (Some value) props = unnamed (Some value) props
+argument_given None None props = unnamed None props
+
+begins : (u a : Option Variant) (v : Variant) → or_else (first_some u (first_some a (Some v))) Nil ≡ or_else u (or_else a v)
+begins None None v = refl
+begins None (Some w) v = refl
+begins (Some w) a v = refl
+
+-- a property of a spawned node begins with its last setting, else with the argument, else with the scene's value
+pub start_is : (who : Who) (o : SpawnOp) → has_twice (prop_names (props_in (scene_made who o))) ≡ false → (i : ℕ) (p : Prop) → slice_get (props_in (scene_made who o)) i ≡ Some p
+    → start_value who o p.name ≡ or_else (value_in (reverse o.sets) p.name) (or_else (argument_for who o p.name) p.value)
+start_is who o apart i p here =
+    ap (λ v. or_else (first_some (value_in (reverse o.sets) p.name) (first_some (argument_for who o p.name) v)) Nil) (value_of_prop (props_in (scene_made who o)) i p apart here)
+    ∙ begins (value_in (reverse o.sets) p.name) (argument_for who o p.name) p.value
 
 -- a property with the value with which it begins
 abbrev pub started : Who → SpawnOp → Prop → Prop
 started who o p = record { name = p.name; value = start_value who o p.name }
 
--- the values with which a node begins that is spawned by scene
-pub starts_are : (who : Who) (o : SpawnOp) → o.arg ≡ None → has_twice (prop_names (props_in (scene_made who o))) ≡ false → map (started who o) (props_in (scene_made who o)) ≡ assign_all (settings o.sets) (props_in (scene_made who o))
-starts_are who o none apart =
-    map_in (started who o) (last_set o.sets) (props_in (scene_made who o)) (λ i p here. ap (λ v. record p { value = v }) (start_is who o none apart i p here))
-    ∙ sym (assigned_last o.sets (props_in (scene_made who o)))
+-- the values with which a spawned node begins
+pub starts_are : (who : Who) (o : SpawnOp) → has_twice (prop_names (props_in (scene_made who o))) ≡ false
+    → map (started who o) (props_in (scene_made who o)) ≡ assign_all (settings o.sets) (assign_argument (argument_prop who o) o.arg (props_in (scene_made who o)))
+starts_are who o apart =
+    let props = props_in (scene_made who o) in
+    let given = with_argument (argument_prop who o) o.arg in
+    map_in (started who o) (λ p. last_set o.sets (given p)) props (λ i p here. ap (λ v. record p { value = v }) (start_is who o apart i p here))
+    ∙ sym (map-map (last_set o.sets) given props)
+    ∙ ap (map (last_set o.sets)) (sym (argument_given (argument_prop who o) o.arg props))
+    ∙ sym (assigned_last o.sets (assign_argument (argument_prop who o) o.arg props))

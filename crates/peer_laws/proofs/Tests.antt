@@ -1,7 +1,7 @@
 -- Tests that pass or fail, options, and tables of reasons.
 use Rattle.std.proofs.Common.{◌≡◌, Bool, true, false, not, ◌||◌, List, ◌∷◌, refl, is_some, Option, Some, None}
 use Rattle.std.specs.Prelude.{is_none, option_map, option_and_then}
-use Rattle.gd_variant.specs.Words.{when, first_of, first_some}
+use Rattle.gd_variant.specs.Words.{some_is, when, first_of, first_some}
 
 -- tests
 
@@ -24,6 +24,11 @@ or_true false = refl
 pub some_of : {X : Type 0} (o : Option X) → is_some o ≡ true → (x : X) × (o ≡ Some x)
 some_of None h = absurd (cc h)
 some_of (Some x) h = (x, refl)
+
+-- what passes a test is something
+pub some_passes : {X : Type 0} (p : X → Bool) (o : Option X) → some_is p o ≡ true → (x : X) × (o ≡ Some x) × (p x ≡ true)
+some_passes p None h = absurd (cc h)
+some_passes p (Some x) h = (x, refl, h)
 
 -- what an option leads to comes from something
 pub then_some : {X Y : Type 0} (f : X → Option Y) (o : Option X) (y : Y) → option_and_then f o ≡ Some y → (x : X) × (o ≡ Some x) × (f x ≡ Some y)

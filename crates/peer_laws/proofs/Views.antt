@@ -1,5 +1,5 @@
--- What is seen of each peer, where only spawns are received: its updates applied, and its rows among the nodes of the tree.
-use Rattle.std.proofs.Common.{◌≡◌, ℕ, ℤ, Bool, true, false, cond, not, ◌&&◌, ◌||◌, List, [], ◌∷◌, ◌++◌, refl, sym, ap, ap₂, ◌∙◌, length, map, reverse, is_some, nat_le, Option, Some, None, Ok, Err}
+-- What is seen of each peer, where only spawns and despawns are received: its updates applied, and its rows among the nodes of the tree.
+use Rattle.std.proofs.Common.{◌≡◌, ℕ, ℤ, Bool, true, false, cond, not, ◌&&◌, ◌||◌, List, [], ◌∷◌, ◌++◌, refl, sym, ap, ap₂, ◌∙◌, length, map, filter, reverse, is_some, nat_eq, nat_le, Option, Some, None, Ok, Err}
 use Rattle.std.specs.Prelude.{flat_map, find, is_none, int_lt, if◌then◌else◌}
 use Rattle.std.specs.List.{list_all, cons_option}
 use Rattle.std.specs.Ordering.{int_eq}
@@ -23,18 +23,18 @@ use Rattle.scene_model.specs.Valid.{IsValidScene}
 use Rattle.peer_model.specs.Heard.{Who, Heard, does, comes, goes, gets, is_server, server, received_from}
 use Rattle.peer_model.specs.Peers.{is_up, peers_up}
 use Rattle.peer_model.specs.Rows.{OwnRow, own_rows, syncs_at}
-use Rattle.peer_model.specs.Updates.{Update, Show, Live, Replica, applied, shown_node, shown_path, shown_place, by_number, replica_syncers, fixed_of, spawner_with}
+use Rattle.peer_model.specs.Updates.{Update, Hide, Show, Live, Replica, applied, shown_node, shown_path, shown_place, by_number, replica_syncers, fixed_of, spawner_with}
 use Rattle.peer_model.specs.View.{view, updates_in, updates_from, samples_of, best_sample, with_sample, with_samples, sampled_values, rows_while, own_live, rows_of, authorities, fixed_now, tree_of, node_at}
 use Rattle.peer_model.specs.Refusals.{most_rows}
-use Rattle.peer_model.specs.Faults.{link_fault, spawn_fault, auth_is, bad_id, first_known, known_ids, wrong_spawn}
+use Rattle.peer_model.specs.Faults.{link_fault, packet_fault, spawn_fault, auth_is, bad_id, first_known, known_ids, wrong_spawn}
 use Rattle.scene_model.proofs.ListLaws.{any-put_by}
 use Rattle.peer_model.proofs.Shown.{joined_updates}
 use Rattle.headless_tree.specs.Nodes.{is_row_of}
-use Rattle.peer_laws.specs.Built.{Accepts, AllAccepted, is_spawn}
+use Rattle.peer_laws.specs.Built.{Accepts, AllAccepted, is_row_packet}
 use Rattle.peer_laws.specs.Facts.{Facts, rows_under}
 use Rattle.peer_laws.proofs.Tests.{first_none, none_mapped, no_first, not_false, no_row, no_answer}
 use Rattle.peer_laws.proofs.Numbers.{int_same, int_is}
-use Rattle.peer_laws.proofs.Each.{all-put_by}
+use Rattle.peer_laws.proofs.Each.{all-put_by, all-filter}
 use Rattle.peer_laws.proofs.Sorted.{put_rising, is_rising}
 use Rattle.peer_laws.proofs.Authorities.{under_flat}
 use Rattle.peer_laws.proofs.Scenes.{shown_name, shown_is_placed}
@@ -47,32 +47,40 @@ show_plain m = packet.Spawn m.scene m.spawner m.net m.syncs m.name m.arg m.value
 abbrev pub shown_by : ℤ → Class → List ℕ → SpawnMsg → Heard
 shown_by from class bytes m = gets from class bytes (Ok (plain_packet (show_plain m)))
 
--- only spawns are received
+-- a packet of a peer's own, and the event that a Hide comes by
+abbrev pub got : ℤ → Class → List ℕ → Plain → Heard
+got from class bytes p = gets from class bytes (Ok (plain_packet p))
 
-pub only_spawns : (who : Who) (es : List Heard) → AllAccepted who es → (c : ℤ) → list_all is_spawn (received_from who es c) ≡ true
-only_spawns who [] h c = refl
-only_spawns who (does op ∷ es) h c = only_spawns who es h.1 c
-only_spawns who (comes b ∷ es) h c = only_spawns who es h.1 c
-only_spawns who (goes b ∷ es) h c = only_spawns who es h.1 c
-only_spawns who (gets from class bytes (Ok (plain_packet p)) ∷ es) h c = elim (int_eq from c) as (λ b. list_all is_spawn (cons_option (cond b (Some p) None) (received_from who es c)) ≡ true) [
-  | true ↦ and_from (is_spawn p) (list_all is_spawn (received_from who es c)) h.0.built (only_spawns who es h.1 c)
-  | false ↦ only_spawns who es h.1 c
+abbrev pub hidden_by : ℤ → Class → List ℕ → ℕ → Heard
+hidden_by from class bytes net = got from class bytes (packet.Despawn net)
+
+-- only spawns and despawns are received
+
+pub only_rows : (who : Who) (es : List Heard) → AllAccepted who es → (c : ℤ) → list_all is_row_packet (received_from who es c) ≡ true
+only_rows who [] h c = refl
+only_rows who (does op ∷ es) h c = only_rows who es h.1 c
+only_rows who (comes b ∷ es) h c = only_rows who es h.1 c
+only_rows who (goes b ∷ es) h c = only_rows who es h.1 c
+only_rows who (gets from class bytes (Ok (plain_packet p)) ∷ es) h c = elim (int_eq from c) as (λ b. list_all is_row_packet (cons_option (cond b (Some p) None) (received_from who es c)) ≡ true) [
+  | true ↦ and_from (is_row_packet p) (list_all is_row_packet (received_from who es c)) h.0.built (only_rows who es h.1 c)
+  | false ↦ only_rows who es h.1 c
 ]
-only_spawns who (gets from class bytes (Ok (AddPeer b)) ∷ es) h c = absurd (true≢false (sym h.0.built))
-only_spawns who (gets from class bytes (Ok (DelPeer b)) ∷ es) h c = absurd (true≢false (sym h.0.built))
-only_spawns who (gets from class bytes (Ok (Auth b bs)) ∷ es) h c = absurd (true≢false (sym h.0.built))
-only_spawns who (gets from class bytes (Ok (Relay b p)) ∷ es) h c = absurd (true≢false (sym h.0.built))
-only_spawns who (gets from class bytes (Err bad) ∷ es) h c = only_spawns who es h.1 c
+only_rows who (gets from class bytes (Ok (AddPeer b)) ∷ es) h c = absurd (true≢false (sym h.0.built))
+only_rows who (gets from class bytes (Ok (DelPeer b)) ∷ es) h c = absurd (true≢false (sym h.0.built))
+only_rows who (gets from class bytes (Ok (Auth b bs)) ∷ es) h c = absurd (true≢false (sym h.0.built))
+only_rows who (gets from class bytes (Ok (Relay b p)) ∷ es) h c = absurd (true≢false (sym h.0.built))
+only_rows who (gets from class bytes (Err bad) ∷ es) h c = only_rows who es h.1 c
 
-no_samples : (id : ℕ) (ps : List Plain) → list_all is_spawn ps ≡ true → samples_of id ps ≡ []
+no_samples : (id : ℕ) (ps : List Plain) → list_all is_row_packet ps ≡ true → samples_of id ps ≡ []
 no_samples id [] h = refl
 no_samples id (packet.Spawn scene spawner net syncs name arg values ∷ ps) h = elim (has_nat id syncs) as (λ b. (if b then [] else samples_of id ps) ≡ []) [ true ↦ refl | false ↦ no_samples id ps h ]
-no_samples id (p ∷ ps) h = absurd (true≢false (sym (and_parts (is_spawn p) (list_all is_spawn ps) h).0))
+no_samples id (packet.Despawn net ∷ ps) h = no_samples id ps h
+no_samples id (p ∷ ps) h = absurd (true≢false (sym (and_parts (is_row_packet p) (list_all is_row_packet ps) h).0))
 
-same_node : (ps : List Plain) → list_all is_spawn ps ≡ true → (n : Live) (y : Syncer) → with_sample ps n y ≡ n
+same_node : (ps : List Plain) → list_all is_row_packet ps ≡ true → (n : Live) (y : Syncer) → with_sample ps n y ≡ n
 same_node ps h n y = ap (λ ss. record n { values = sampled_values n.path y (best_sample ss) n.values }) (no_samples y.id ps h)
 
-same_nodes : (ps : List Plain) → list_all is_spawn ps ≡ true → (ys : List Syncer) (n : Live) → with_samples ps ys n ≡ n
+same_nodes : (ps : List Plain) → list_all is_row_packet ps ≡ true → (ys : List Syncer) (n : Live) → with_samples ps ys n ≡ n
 same_nodes ps h [] n = refl
 same_nodes ps h (y ∷ ys) n = ap (with_samples ps ys) (same_node ps h n y) ∙ same_nodes ps h ys n
 
@@ -85,10 +93,10 @@ pub view_is : (who : Who) (es : List Heard) → AllAccepted who es → (c : ℤ)
 view_is who es h c =
     let ps = received_from who es c in
     let r = applied who.scene c (updates_from who es c) in
-    let same : (ns : List Live) → map (with_samples ps (replica_syncers who.scene c r.rows)) ns ≡ ns = λ ns. map_fixed (with_samples ps (replica_syncers who.scene c r.rows)) ns (λ k d l. same_nodes ps (only_spawns who es h c) (replica_syncers who.scene c r.rows) _) in
+    let same : (ns : List Live) → map (with_samples ps (replica_syncers who.scene c r.rows)) ns ≡ ns = λ ns. map_fixed (with_samples ps (replica_syncers who.scene c r.rows)) ns (λ k d l. same_nodes ps (only_rows who es h c) (replica_syncers who.scene c r.rows) _) in
     ap₂ {C = Replica} (λ f ls. record { fixed = f; rows = rows_while (is_up es c) ls }) (same r.fixed) (same r.rows)
 
--- updates, one spawn later
+-- updates, one packet later
 
 updates_onto : (ps : List Plain) (p : Plain) → flat_map updates_in (reverse (p ∷ ps)) ≡ flat_map updates_in (reverse ps) ++ updates_in p
 updates_onto ps p =
@@ -96,17 +104,21 @@ updates_onto ps p =
     ∙ flat_map-append updates_in (reverse ps) (p ∷ [])
     ∙ ap (λ us. flat_map updates_in (reverse ps) ++ us) (append-nil (updates_in p))
 
-pub updates_received : (who : Who) (es : List Heard) (from : ℤ) (class : Class) (bytes : List ℕ) (m : SpawnMsg) → updates_from who (shown_by from class bytes m ∷ es) from ≡ updates_from who es from ++ Show m ∷ []
-updates_received who es from class bytes m =
-    ap (λ b. flat_map updates_in (reverse (cons_option (cond b (Some (show_plain m)) None) (received_from who es from)))) (int_same from)
-    ∙ updates_onto (received_from who es from) (show_plain m)
+pub updates_got : (who : Who) (es : List Heard) (from : ℤ) (class : Class) (bytes : List ℕ) (p : Plain) → updates_from who (got from class bytes p ∷ es) from ≡ updates_from who es from ++ updates_in p
+updates_got who es from class bytes p =
+    ap (λ b. flat_map updates_in (reverse (cons_option (cond b (Some p) None) (received_from who es from)))) (int_same from)
+    ∙ updates_onto (received_from who es from) p
 
-pub updates_of_others : (who : Who) (es : List Heard) (from : ℤ) (class : Class) (bytes : List ℕ) (m : SpawnMsg) (c : ℤ) → int_eq from c ≡ false → updates_from who (shown_by from class bytes m ∷ es) c ≡ updates_from who es c
-updates_of_others who es from class bytes m c other = ap (λ b. flat_map updates_in (reverse (cons_option (cond b (Some (show_plain m)) None) (received_from who es c)))) other
+pub updates_of_others : (who : Who) (es : List Heard) (from : ℤ) (class : Class) (bytes : List ℕ) (p : Plain) (c : ℤ) → int_eq from c ≡ false → updates_from who (got from class bytes p ∷ es) c ≡ updates_from who es c
+updates_of_others who es from class bytes p c other = ap (λ b. flat_map updates_in (reverse (cons_option (cond b (Some p) None) (received_from who es c)))) other
 
 -- a Show more puts its node among the rows
 pub applied_show : (s : Scene) (c : ℤ) (us : List Update) (m : SpawnMsg) → applied s c (us ++ Show m ∷ []) ≡ record { fixed = (applied s c us).fixed; rows = put_by by_number (shown_node s c m) (applied s c us).rows }
 applied_show s c us m = joined_updates s c (record { fixed = fixed_of s c; rows = [] }) us (Show m ∷ [])
+
+-- a Hide more takes the row of its number away
+pub applied_hide : (s : Scene) (c : ℤ) (us : List Update) (net : ℕ) → applied s c (us ++ Hide net ∷ []) ≡ record { fixed = (applied s c us).fixed; rows = filter (λ (n : Live). not (nat_eq n.num net)) (applied s c us).rows }
+applied_hide s c us net = joined_updates s c (record { fixed = fixed_of s c; rows = [] }) us (Hide net ∷ [])
 
 -- what is known of an accepted spawn
 
@@ -139,9 +151,16 @@ spawn_is_welcome who es from class bytes m h =
     let k = no_row _ _ _ j.1 in
     record { link = both_none.0; known = a.0; spawner = b.0; authority = c.0; scene = d.0; range = none_mapped _ _ e.0; fresh = none_mapped _ _ f.0; name = g.0; free = i.0; room = j.0; right = k.0 }
 
+-- a link from which a packet is taken is up
+pub linked_up : (who : Who) (es : List Heard) (from : ℤ) → link_fault who es from ≡ None → is_up es from ≡ true
+linked_up who es from h = not_false (is_up es from) (or_parts (not (is_up es from)) (not (is_server who) && not (int_eq from server)) (no_answer _ _ h)).0
+
 -- a packet of a link that is up
 pub welcome_is_up : (who : Who) (es : List Heard) (from : ℤ) (m : SpawnMsg) → IsWelcome who es from m → is_up es from ≡ true
-welcome_is_up who es from m w = not_false (is_up es from) (or_parts (not (is_up es from)) (not (is_server who) && not (int_eq from server)) (no_answer _ _ w.link)).0
+welcome_is_up who es from m w = linked_up who es from w.link
+
+pub got_is_up : (who : Who) (es : List Heard) (from : ℤ) (class : Class) (bytes : List ℕ) (p : Plain) → Accepts who es (got from class bytes p) → is_up es from ≡ true
+got_is_up who es from class bytes p h = linked_up who es from (first_none (link_fault who es from) (packet_fault who es from p) h.no_fault).0
 
 pub welcome_is_placed : (who : Who) (es : List Heard) (from : ℤ) (m : SpawnMsg) → IsValidScene who.scene → IsWelcome who es from m → is_some (shown_place who.scene m) ≡ true
 welcome_is_placed who es from m v w = shown_is_placed who.scene v m w.scene
@@ -150,6 +169,10 @@ pub welcome_is_row : (who : Who) (es : List Heard) (from : ℤ) (m : SpawnMsg) �
 welcome_is_row who es from m v w = and_from (is_some (shown_place who.scene m)) (int_eq from from) (welcome_is_placed who es from m v w) (int_same from)
 
 -- rows of a view
+
+-- whether all that a peer's updates make with one packet more are its rows
+abbrev rows_with : Who → List Heard → ℤ → Option Plain → Bool
+rows_with who es c o = list_all (is_row_of c) (applied who.scene c (flat_map updates_in (reverse (cons_option o (received_from who es c))))).rows
 
 pub applied_rows_are_of : (who : Who) (es : List Heard) → IsValidScene who.scene → AllAccepted who es → (c : ℤ) → list_all (is_row_of c) (applied who.scene c (updates_from who es c)).rows ≡ true
 applied_rows_are_of who [] v h c = refl
@@ -162,18 +185,23 @@ applied_rows_are_of who (gets from class bytes (Ok (plain_packet (packet.Spawn s
     m : SpawnMsg
     m = record { scene = scene; spawner = spawner; net = net; syncs = syncs; name = name; arg = arg; values = values }
 
-    rows_with : Option Plain → Bool
-    rows_with o = list_all (is_row_of c) (applied who.scene c (flat_map updates_in (reverse (cons_option o (received_from who es c))))).rows
-
     is_new : from ≡ c → is_row_of c (shown_node who.scene c m) ≡ true
     is_new e = ap (λ z. is_row_of z (shown_node who.scene z m)) (sym e) ∙ welcome_is_row who es from m v (spawn_is_welcome who es from class bytes m h.0)
 
-    step : (b : Bool) → int_eq from c ≡ b → list_all (is_row_of c) (applied who.scene c (updates_from who es c)).rows ≡ true → rows_with (cond b (Some (show_plain m)) None) ≡ true
+    step : (b : Bool) → int_eq from c ≡ b → list_all (is_row_of c) (applied who.scene c (updates_from who es c)).rows ≡ true → rows_with who es c (cond b (Some (show_plain m)) None) ≡ true
     step false e more = more
     step true e more =
         ap (λ us. list_all (is_row_of c) (applied who.scene c us).rows) (updates_onto (received_from who es c) (show_plain m))
         ∙ ap (λ (r : Replica). list_all (is_row_of c) r.rows) (applied_show who.scene c (updates_from who es c) m)
         ∙ all-put_by (is_row_of c) by_number (shown_node who.scene c m) (applied who.scene c (updates_from who es c)).rows (is_new (int_is from c e)) more
+applied_rows_are_of who (gets from class bytes (Ok (plain_packet (packet.Despawn net))) ∷ es) v h c = step (int_eq from c) (applied_rows_are_of who es v h.1 c)
+  where
+    step : (b : Bool) → list_all (is_row_of c) (applied who.scene c (updates_from who es c)).rows ≡ true → rows_with who es c (cond b (Some (packet.Despawn net)) None) ≡ true
+    step false more = more
+    step true more =
+        ap (λ us. list_all (is_row_of c) (applied who.scene c us).rows) (updates_onto (received_from who es c) (packet.Despawn net))
+        ∙ ap (λ (r : Replica). list_all (is_row_of c) r.rows) (applied_hide who.scene c (updates_from who es c) net)
+        ∙ all-filter (is_row_of c) (λ (n : Live). not (nat_eq n.num net)) (applied who.scene c (updates_from who es c)).rows more
 applied_rows_are_of who (gets from class bytes (Ok m) ∷ es) v h c = absurd (true≢false (sym h.0.built))
 applied_rows_are_of who (gets from class bytes (Err bad) ∷ es) v h c = applied_rows_are_of who es v h.1 c
 

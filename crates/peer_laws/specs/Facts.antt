@@ -1,11 +1,12 @@
 -- What holds of every list of built and accepted events.
-use Rattle.std.specs.Prelude.{◌≡◌, ℕ, ℤ, Bool, true, false, List, [], map, filter, nat_lt}
+use Rattle.std.specs.Prelude.{◌≡◌, ℕ, ℤ, Bool, true, false, not, ◌&&◌, List, [], ◌∷◌, map, filter, nat_eq, nat_lt, Option, Some, None}
 use Rattle.std.specs.List.{list_all}
 use Rattle.gd_variant.specs.Words.{has_int}
+use Rattle.scene_model.specs.declared.event.SpawnOp.{SpawnOp}
 use Rattle.scene_model.specs.Valid.{has_twice}
 use Rattle.peer_model.specs.Heard.{Who, Heard, received_from}
 use Rattle.peer_model.specs.Peers.{peers_come, was_up}
-use Rattle.peer_model.specs.Rows.{OwnRow, own_rows, next_number}
+use Rattle.peer_model.specs.Rows.{OwnRow, own_rows, next_number, row_made, despawns}
 use Rattle.peer_model.specs.Updates.{Live}
 use Rattle.peer_model.specs.View.{tree_of}
 use Rattle.headless_tree.specs.Nodes.{is_row_of}
@@ -17,6 +18,19 @@ paths_of nodes = map (λ (n : Live). n.path) nodes
 -- the rows of an authority among nodes
 abbrev pub rows_under : ℤ → List Live → List Live
 rows_under c nodes = filter (is_row_of c) nodes
+
+-- the nodes without an authority's row of a number
+abbrev pub without_number : ℤ → ℕ → List Live → List Live
+without_number c net nodes = filter (λ (n : Live). not (is_row_of c n && nat_eq n.num net)) nodes
+
+-- the row that an event makes, by the spawn in it
+abbrev pub new_rows : Who → List Heard → Option SpawnOp → List OwnRow
+new_rows who es None = []
+new_rows who es (Some o) = row_made who es o ∷ []
+
+-- whether an event leaves an own row
+abbrev pub leaves : Heard → OwnRow → Bool
+leaves e r = not (despawns r.path e)
 
 -- whether a row's numbers are below another number
 abbrev pub is_below : ℕ → OwnRow → Bool

@@ -1,29 +1,18 @@
--- What is shown of rows, where no setting of visibility is built: a row is seen by all others or by none.
-use Rattle.std.specs.Prelude.{ℕ, Bool, true, List, [], ◌∷◌, map, Some}
-use Rattle.std.specs.List.{list_any}
+-- What is shown of rows, and what a spawn makes.
+use Rattle.std.specs.Prelude.{ℕ, List, map, Some}
 use Rattle.gd_variant.specs.Words.{or_else}
 use Rattle.gd_variant.specs.declared.value.Variant.{Variant}
 use Rattle.gd_variant.specs.declared.value.Variant.TheVariants.{Nil}
 use Rattle.gd_variant.specs.declared.message.Plain.{Plain}
 use Rattle.gd_variant.specs.declared.message.Plain.TheVariants as packet
-use Rattle.scene_model.specs.declared.scene.Scene.{Scene}
-use Rattle.scene_model.specs.declared.scene.SyncDef.{SyncDef}
 use Rattle.scene_model.specs.declared.scene.Prop.{Prop}
 use Rattle.scene_model.specs.Lookup.{fixed_path_id}
 use Rattle.peer_model.specs.Heard.{Who}
 use Rattle.peer_model.specs.Rows.{OwnRow, syncs_at}
-use Rattle.peer_model.specs.Values.{scene_made, props_in}
-use Rattle.peer_model.specs.Updates.{Live, all_spawn_props, assign_all}
+use Rattle.peer_model.specs.Values.{scene_made, props_in, argument_prop}
+use Rattle.peer_model.specs.Updates.{Live, all_spawn_props, assign_all, assign_argument}
 use Rattle.peer_model.specs.Changes.{scene_byte}
 use Rattle.headless_tree.specs.Nodes.{value_at}
-
--- whether a row of the scene at a place is shown to others: it has no synchronizer, or a public one (Godot: MultiplayerSynchronizer, public_visibility)
-abbrev pub is_open : Scene → ℕ → Bool
-is_open s place = none_or_any (syncs_at s (Some place))
-  where
-    none_or_any : List SyncDef → Bool
-    none_or_any [] = true
-    none_or_any (d ∷ ds) = list_any (λ (e : SyncDef). e.public) (d ∷ ds)
 
 -- the values that the node at a path has of some properties
 abbrev pub values_in : List Live → List ℕ → List (List ℕ) → List Variant
@@ -38,7 +27,7 @@ show_packet who nodes r = packet.Spawn (scene_byte who r) (or_else (fixed_path_i
 abbrev pub settings : List Prop → List (List ℕ × Variant)
 settings sets = map (λ (p : Prop). (p.name, p.value)) sets
 
--- the node that a spawn makes: its scene's defaults, and then the settings in order
+-- the node that a spawn makes: its scene's defaults, then the argument, and then the settings in order
 abbrev pub spawned_live : Who → OwnRow → Live
 spawned_live who r = record {
   auth = who.id;
@@ -46,5 +35,5 @@ spawned_live who r = record {
   ids = r.ids;
   path = r.path;
   place = Some r.place;
-  values = assign_all (settings r.made_by.sets) (props_in (scene_made who r.made_by));
+  values = assign_all (settings r.made_by.sets) (assign_argument (argument_prop who r.made_by) r.made_by.arg (props_in (scene_made who r.made_by)));
 }

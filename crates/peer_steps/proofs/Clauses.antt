@@ -3,11 +3,10 @@ use Rattle.std.proofs.Common.{◌≡◌, ℤ, Bool, true, false, List, [], ◌�
 use Rattle.std.specs.Prelude.{if◌then◌else◌}
 use Rattle.gd_variant.specs.declared.message.Message.{Message}
 use Rattle.gd_variant.specs.declared.message.Bad.{Bad}
-use Rattle.scene_model.specs.declared.spawn.SpawnMsg.{SpawnMsg}
 use Rattle.scene_model.specs.declared.event.Event.{Event}
 use Rattle.scene_model.specs.declared.event.Event.TheVariants.{Op, Up, Down, Received}
 use Rattle.scene_model.specs.declared.event.Op.{Op as Operation}
-use Rattle.scene_model.specs.declared.event.Op.TheVariants.{Spawn, Set}
+use Rattle.scene_model.specs.declared.event.Op.TheVariants.{Spawn, Custom, Despawn, Set, Public, For, Filter}
 use Rattle.scene_model.specs.declared.outcome.Outcome.TheVariants.{Refused}
 use Rattle.scene_model.specs.declared.outcome.Refusal.TheVariants.{BadPeer}
 use Rattle.scene_model.specs.declared.outcome.Fault.{Fault as FaultOf}
@@ -18,11 +17,13 @@ use Rattle.peer_model.specs.Heard.{Who, Heard}
 use Rattle.peer_model.specs.View.{report_of, row_of}
 use Rattle.peer_model.specs.Bytes.{PacketForm}
 use Rattle.peer_laws.proofs.TreeStart.{tree_start}
+use Rattle.sight_laws.specs.Sights.{Sights}
+use Rattle.sight_laws.proofs.Stepping.{sights_at_first}
 use Rattle.peer_steps.specs.Kept.{Kept, new_peer}
 use Rattle.peer_steps.specs.Stands.{HasParts, StandsFor, is_answered, built_answer, is_built_event}
 use Rattle.peer_steps.specs.Peers.{peer_comes}
 use Rattle.peer_steps.specs.Judged.{lacks_server, link_judged}
-use Rattle.peer_steps.specs.Steps.{Taken, taken, unchanged, up_taken, op_taken, message_taken, linked_taken, read_taken, spawn_read, is_done}
+use Rattle.peer_steps.specs.Steps.{Taken, taken, unchanged, up_taken, op_taken, message_taken, linked_taken, read_taken, RowNews, appears, disappears, row_read, is_done}
 use Rattle.peer_steps.proofs.Whole.{taken_right, kept_still}
 
 -- a new peer stands for no events
@@ -37,6 +38,8 @@ start_stands form s id valid = record {
   nodes = sym (tree_start (record { id = id; scene = s }) valid);
   next = refl;
   rows = refl;
+  seen = refl;
+  fixed = ap (λ (v : Sights). v.fixed) (sym (sights_at_first (record { id = id; scene = s })));
 }
 
 -- a step that made this outcome and keeps this
@@ -60,13 +63,14 @@ reported k es h = ap₂ (λ us ns. record { peers = us; rows = map row_of ns }) 
 abbrev rest : Kept → Who × Bool
 rest k = (k.who, k.spent)
 
-message_rest : (k : Kept) (from : ℤ) (s : Option SpawnMsg) → rest (message_taken k from s).kept ≡ rest k
+message_rest : (k : Kept) (from : ℤ) (x : Option RowNews) → rest (message_taken k from x).kept ≡ rest k
 message_rest k from None = refl
-message_rest k from (Some s) = refl
+message_rest k from (Some (appears m)) = refl
+message_rest k from (Some (disappears net)) = refl
 
 linked_rest : (k : Kept) (from : ℤ) (m : Message) (o : Option FaultOf) → rest (linked_taken k from m o).kept ≡ rest k
 linked_rest k from m (Some f) = refl
-linked_rest k from m None = message_rest k from (spawn_read m)
+linked_rest k from m None = message_rest k from (row_read m)
 
 read_rest : (k : Kept) (from : ℤ) (r : Result Message Bad) → rest (read_taken k from r).kept ≡ rest k
 read_rest k from (Err bad) = refl
@@ -78,6 +82,11 @@ link_rest form k b false = refl
 
 op_rest : (form : PacketForm) (k : Kept) (op : Operation) → rest (op_taken form k op).kept ≡ rest k
 op_rest form k (Spawn o) = refl
+op_rest form k (Custom o) = refl
+op_rest form k (Despawn path) = refl
+op_rest form k (Public path n on) = refl
+op_rest form k (For path n b on) = refl
+op_rest form k (Filter path n bs) = refl
 op_rest form k (Set path prop value) = refl
 op_rest form k op = refl
 

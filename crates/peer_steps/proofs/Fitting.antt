@@ -1,12 +1,12 @@
 -- A tree and own rows that fit stay so: before any event, and after each that a peer takes.
-use Rattle.std.proofs.Common.{◌≡◌, ℕ, ◌+◌, ◌<◌, ◌≤◌, ℤ, Bool, true, false, cond, not, ◌&&◌, ◌||◌, List, [], ◌∷◌, refl, ap, ◌∙◌, length, nat_lt, arith, is_some, Option, Some, None}
+use Rattle.std.proofs.Common.{◌≡◌, ℕ, ◌+◌, ◌<◌, ◌≤◌, ℤ, Bool, true, false, cond, not, ◌&&◌, ◌||◌, List, [], ◌∷◌, refl, ap, ◌∙◌, length, nat_eq, nat_lt, arith, Option, Some, None}
 use Rattle.std.specs.Prelude.{IfSome, is_none, zip, option_and_then, position}
 use Rattle.std.specs.List.{list_all}
 use Rattle.std.specs.Ordering.{int_eq}
 use Rattle.std.proofs.lemmas.Bool.Decides.{nat_tests}
 use Rattle.std.proofs.lemmas.Bool.{and_parts, and_from}
 use Rattle.std.proofs.lemmas.List.Folds.{list_all-append, list_all-map}
-use Rattle.gd_variant.specs.Words.{text_eq, when}
+use Rattle.gd_variant.specs.Words.{text_eq, some_is, when}
 use Rattle.gd_variant.specs.Sound.{is_sound}
 use Rattle.gd_variant.specs.declared.value.Variant.{Variant}
 use Rattle.scene_model.specs.declared.scene.Node.{Node}
@@ -26,8 +26,8 @@ use Rattle.peer_model.specs.Rows.{syncs_at, count_from, spawned_scene}
 use Rattle.peer_model.specs.Updates.{Live, live_at, fixed_live, assign, assign_all, assign_argument, custom_prop, shown_node, shown_place, shown_props, shown_spawn_props}
 use Rattle.peer_model.specs.View.{fits}
 use Rattle.peer_model.specs.Refusals.{owns, has_live_prop, argument_fits}
-use Rattle.headless_tree.specs.Lists.{change_first}
-use Rattle.headless_tree.specs.Nodes.{TreeOf, is_at, is_row_of, row_before, with_value, assigned, fixed_nodes}
+use Rattle.headless_tree.specs.Lists.{change_first, without_first}
+use Rattle.headless_tree.specs.Nodes.{TreeOf, is_at, is_row_of, row_before, with_value, assigned, fixed_nodes, has_spawned, without_spawned}
 use Rattle.headless_tree.proofs.Order.{all_weaker}
 use Rattle.headless_tree.proofs.Places.{found_within}
 use Rattle.peer_laws.specs.Shown.{spawned_live}
@@ -36,17 +36,19 @@ use Rattle.peer_laws.proofs.Scenes.{shown_is_placed, all_right, nodes_right, rig
 use Rattle.peer_laws.proofs.Tests.{no_row, not_false}
 use Rattle.peer_steps.specs.declared.site.Site.{Site}
 use Rattle.peer_steps.specs.Rows.{row_of_spawn}
-use Rattle.peer_steps.specs.Rights.{is_right_value, are_right, has_right_values, is_right_row, is_before}
-use Rattle.peer_steps.specs.Sites.{IsSite, MaySpawn, byte_in, under_in, who_at, own_made, after_made, has_short}
-use Rattle.peer_steps.specs.Sound.{is_sound_argument, is_sound_spawn}
+use Rattle.peer_steps.specs.Rights.{is_right_value, are_right, has_right_values, is_right_argument, is_right_row, is_before}
+use Rattle.peer_steps.specs.Sites.{IsSite, MaySpawn, byte_in, under_in, scene_in, who_at, own_made, after_made, has_short}
+use Rattle.peer_steps.specs.declared.rows.SpawnedRow.{SpawnedRow}
+use Rattle.peer_steps.specs.Arguments.{is_sound_argument, is_right_spawn}
+use Rattle.peer_steps.specs.Sound.{is_sound_spawn}
 use Rattle.peer_steps.specs.Spawns.{spawn_judged, shown_judged}
-use Rattle.peer_steps.specs.Judged.{set_judged, set_nodes}
-use Rattle.peer_steps.specs.Track.{Track, no_rows, own_spawn, spawned_by, shown_spawn, shown_by, tree_without}
+use Rattle.peer_steps.specs.Judged.{set_judged, set_nodes, despawn_judged, sight_judged, hidden_judged}
+use Rattle.peer_steps.specs.Track.{Track, first_track, own_spawn, spawned_by, shown_spawn, shown_by, tree_without, hidden_row, hidden_by, own_despawn, despawned_by, number_at, SightChange, own_sighted, sighted_by, sight_at, track_up, track_down}
 use Rattle.peer_steps.specs.Fits.{Fits}
 use Rattle.peer_steps.proofs.Admitted.{IsAdmitted, admitted, values_short, argument_short}
 use Rattle.peer_steps.proofs.Packets.{or_true}
 use Rattle.peer_steps.proofs.PlacesOf.{place_by_key}
-use Rattle.peer_steps.proofs.SpawnMade.{welcome, spawn_values, spawn_row_right, none_long, assign_right, defaults_right}
+use Rattle.peer_steps.proofs.SpawnMade.{welcome, spawn_values, spawn_row_right, none_long, assign_right, given_right, defaults_right}
 
 -- before any event
 
@@ -57,7 +59,7 @@ fixed_right s v = list_all-map has_right_values fixed_live s.nodes ∙ all_right
 fixed_each : (p : Live → Bool) → ((n : Node) → p (fixed_live n) ≡ true) → (s : Scene) → list_all p (fixed_nodes s) ≡ true
 fixed_each p k s = list_all-map p fixed_live s.nodes ∙ all_each (λ (n : Node). p (fixed_live n)) k s.nodes
 
-pub fits_start : (me : ℤ) (s : Scene) → IsValidScene s → Fits me (record { scene = s; nodes = fixed_nodes s }) no_rows
+pub fits_start : (me : ℤ) (s : Scene) → IsValidScene s → Fits me (record { scene = s; nodes = fixed_nodes s }) (first_track s me)
 fits_start me s v = record { valid = v; values = fixed_right s v; rows = refl; before = fixed_each (is_before me 1) (λ n. refl) s }
 
 -- rows that are gone
@@ -69,6 +71,71 @@ fits_without me c t k f = record {
   rows = f.rows;
   before = all-filter (is_before me k.next) (λ (n : Live). not (is_row_of c n)) t.nodes f.before;
 }
+
+-- a row of another peer that goes
+pub fits_hidden : (me c : ℤ) (net : ℕ) (t : TreeOf) (k : Track) → Fits me t k → Fits me (hidden_row c net t).1 k
+fits_hidden me c net t k f = by (hidden_judged t.nodes c net)
+  where
+    gone : Live → Bool
+    gone n = is_row_of c n && nat_eq n.num net
+
+    by : (r : Option Fault) → Fits me (hidden_by c net t r).1 k
+    by (Some r) = f
+    by None = record {
+      valid = f.valid;
+      values = all-filter has_right_values (λ n. not (gone n)) t.nodes f.values;
+      rows = f.rows;
+      before = all-filter (is_before me k.next) (λ n. not (gone n)) t.nodes f.before;
+    }
+
+all_without : {X : Type 0} (p test : X → Bool) (xs : List X) → list_all p xs ≡ true → list_all p (without_first test xs) ≡ true
+all_without p test [] h = refl
+all_without {X = X} p test (x ∷ xs) h = step (test x) (all_without p test xs parts.1)
+  where
+    parts : (p x ≡ true) × (list_all p xs ≡ true)
+    parts = and_parts (p x) (list_all p xs) h
+
+    step : (b : Bool) → list_all p (without_first test xs) ≡ true → list_all p (cond b xs (x ∷ without_first test xs)) ≡ true
+    step true more = parts.1
+    step false more = and_from (p x) (list_all p (without_first test xs)) parts.0 more
+
+all_unspawned : (p : Live → Bool) (path : List ℕ) (ns : List Live) → list_all p ns ≡ true → list_all p (without_spawned path ns) ≡ true
+all_unspawned p path ns h = by (has_spawned ns path)
+  where
+    by : (b : Bool) → list_all p (cond b (without_first (is_at path) ns) ns) ≡ true
+    by true = all_without p (is_at path) ns h
+    by false = h
+
+-- an own row that goes
+pub fits_despawn : (me : ℤ) (path : List ℕ) (t : TreeOf) (k : Track) → Fits me t k → Fits me (own_despawn me path k t).tree (own_despawn me path k t).track
+fits_despawn me path t k f = by (despawn_judged (who_at me t.scene) t.nodes path)
+  where
+    num : ℕ
+    num = number_at t.nodes path
+
+    by : (r : Option Refusal) → Fits me (despawned_by path num k t r).tree (despawned_by path num k t r).track
+    by (Some r) = f
+    by None = record {
+      valid = f.valid;
+      values = all_unspawned has_right_values path t.nodes f.values;
+      rows = all-filter (is_right_row t.scene) (λ (r : SpawnedRow). not (nat_eq r.num num)) k.rows f.rows;
+      before = all_unspawned (is_before me k.next) path t.nodes f.before;
+    }
+
+-- who sees the own rows is no part of this
+
+pub fits_sighted : (me : ℤ) (up : List ℤ) (path : List ℕ) (n : ℕ) (c : SightChange) (t : TreeOf) (k : Track) → Fits me t k → Fits me t (own_sighted me up path n c k t).track
+fits_sighted me up path n c t k f = by (sight_judged (who_at me t.scene) t.nodes path n (some_is c.is_full (sight_at k.sights (live_at t.nodes path) path n)))
+  where
+    by : (r : Option Refusal) → Fits me t (sighted_by up path n c k t r).track
+    by (Some r) = f
+    by None = record { valid = f.valid; values = f.values; rows = f.rows; before = f.before }
+
+pub fits_up : (me b : ℤ) (t : TreeOf) (k : Track) → Fits me t k → Fits me t (track_up b k)
+fits_up me b t k f = record { valid = f.valid; values = f.values; rows = f.rows; before = f.before }
+
+pub fits_down : (me b : ℤ) (t : TreeOf) (k : Track) → Fits me t k → Fits me t (track_down b k)
+fits_down me b t k f = record { valid = f.valid; values = f.values; rows = f.rows; before = f.before }
 
 -- an assignment
 
@@ -121,17 +188,22 @@ all_two p q r k (x ∷ xs) h g =
     let b = and_parts (q x) (list_all q xs) g in
     and_from (r x) (list_all r xs) (k x a.0 b.0) (all_two p q r k xs a.1 b.1)
 
+right_argument : (arg : Option Variant) → is_sound_argument arg ≡ true → argument_fits arg ≡ true → is_right_argument arg ≡ true
+right_argument None h k = refl
+right_argument (Some v) h k = and_from (is_sound v) (fits v) h k
+
 -- an own spawn that isn't refused can be made at its site
-pub may_spawn : (me : ℤ) (t : TreeOf) (k : Track) (o : SpawnOp) (x : Site) → Fits me t k → is_some o.scene ≡ true → list_all (λ (p : Prop). is_sound p.value) o.sets ≡ true
+pub may_spawn : (me : ℤ) (t : TreeOf) (k : Track) (o : SpawnOp) (x : Site) → Fits me t k → is_right_spawn o ≡ true → list_all (λ (p : Prop). is_sound p.value) o.sets ≡ true → is_sound_argument o.arg ≡ true
     → IsSite t.scene (spawner_at t.scene o.spawner) o x → IfSome x.place (λ i. i < length t.scene.scenes) → spawn_judged (who_at me t.scene) t.nodes k.rows k.next o ≡ None → MaySpawn (who_at me t.scene) t.nodes k.next o x
-may_spawn me t k o x f scene sound site within free =
-    let w = welcome (who_at me t.scene) t.nodes k.rows k.next o scene free in
+may_spawn me t k o x f built sound argument site within free =
+    let w = welcome (who_at me t.scene) t.nodes k.rows k.next o free in
     record {
       valid = f.valid;
       values = f.values;
       before = f.before;
-      scene = scene;
+      built = built;
       sets = all_two (λ (p : Prop). is_sound p.value) has_short (λ (p : Prop). is_right_value p.value) (λ p h g. and_from (is_sound p.value) (fits p.value) h g) o.sets sound w.short;
+      argument = right_argument o.arg argument w.argument;
       site = site;
       within = within;
       welcome = w;
@@ -154,8 +226,8 @@ before_weaker me next later n le h = step (is_row_of me n) h
     step true e = all_weaker (λ k. nat_lt k next) (λ k. nat_lt k later) lower (n.num ∷ n.ids) e
     step false e = refl
 
-pub fits_made : (me : ℤ) (t : TreeOf) (k : Track) (o : SpawnOp) (x : Site) → MaySpawn (who_at me t.scene) t.nodes k.next o x → Fits me t k → Fits me (spawned_by me o k t None).tree (spawned_by me o k t None).track
-fits_made me t k o x m f = record {
+pub fits_made : (me : ℤ) (up : List ℤ) (t : TreeOf) (k : Track) (o : SpawnOp) (x : Site) → MaySpawn (who_at me t.scene) t.nodes k.next o x → Fits me t k → Fits me (spawned_by me up o k t None).tree (spawned_by me up o k t None).track
+fits_made me up t k o x m f = record {
   valid = f.valid;
   values = spawn_values (who_at me t.scene) t.nodes k.next o x m;
   rows = list_all-append (is_right_row t.scene) k.rows (own_made me t.scene k.next o ∷ []) ∙ and_from (list_all (is_right_row t.scene) k.rows) _ f.rows (and_from (is_right_row t.scene (own_made me t.scene k.next o)) true (spawn_row_right (who_at me t.scene) t.nodes k.next o x m) refl);
@@ -182,7 +254,7 @@ abbrev site_at : Scene → SpawnOp → Site
 site_at s o = record {
   under = under_in (spawner_at s o.spawner);
   path = joined (under_in (spawner_at s o.spawner)) o.name;
-  place = option_and_then (scene_place s) o.scene;
+  place = option_and_then (scene_place s) (scene_in o.scene (spawner_at s o.spawner));
   byte = byte_in o.scene (spawner_at s o.spawner);
 }
 
@@ -194,12 +266,17 @@ site_within s (Some name) = within (scene_place s name) (place_by_key (λ (d : S
     within None e = tt
     within (Some i) e = found_within (λ (d : SceneDef). text_eq name d.name) s.scenes i e
 
-pub fits_spawn : (me : ℤ) (t : TreeOf) (k : Track) (o : SpawnOp) → is_some o.scene ≡ true → list_all (λ (p : Prop). is_sound p.value) o.sets ≡ true → Fits me t k → Fits me (own_spawn me o k t).tree (own_spawn me o k t).track
-fits_spawn me t k o scene sound f = by (spawn_judged (who_at me t.scene) t.nodes k.rows k.next o) refl
+pub fits_spawn : (me : ℤ) (up : List ℤ) (t : TreeOf) (k : Track) (o : SpawnOp) → is_right_spawn o ≡ true → list_all (λ (p : Prop). is_sound p.value) o.sets ≡ true → is_sound_argument o.arg ≡ true
+    → Fits me t k → Fits me (own_spawn me up o k t).tree (own_spawn me up o k t).track
+fits_spawn me up t k o built sound argument f = by (spawn_judged (who_at me t.scene) t.nodes k.rows k.next o) refl
   where
-    by : (r : Option Refusal) → spawn_judged (who_at me t.scene) t.nodes k.rows k.next o ≡ r → Fits me (spawned_by me o k t r).tree (spawned_by me o k t r).track
+    site : Site
+    site = site_at t.scene o
+
+    by : (r : Option Refusal) → spawn_judged (who_at me t.scene) t.nodes k.rows k.next o ≡ r → Fits me (spawned_by me up o k t r).tree (spawned_by me up o k t r).track
     by (Some r) free = f
-    by None free = fits_made me t k o (site_at t.scene o) (may_spawn me t k o (site_at t.scene o) f scene sound (record { under = refl; path = refl; place = refl; byte = refl }) (site_within t.scene o.scene) free) f
+    by None free = fits_made me up t k o site
+        (may_spawn me t k o site f built sound argument (record { under = refl; path = refl; place = refl; byte = refl }) (site_within t.scene (scene_in o.scene (spawner_at t.scene o.spawner))) free) f
 
 -- a received spawn
 
@@ -210,11 +287,6 @@ assign_all_right (name ∷ names) (value ∷ values) props right h =
     let parts = and_parts (is_right_value value) (list_all is_right_value values) right in
     assign_all_right names values (assign name value props) parts.1 (assign_right name value props parts.0 h)
 
-argument_right : (name : Option (List ℕ)) (arg : Option Variant) (props : List Prop) → is_sound_argument arg ≡ true → argument_fits arg ≡ true → are_right props ≡ true → are_right (assign_argument name arg props) ≡ true
-argument_right (Some name) (Some value) props sound short h = assign_right name value props (and_from (is_sound value) (fits value) sound short) h
-argument_right (Some name) None props sound short h = h
-argument_right None arg props sound short h = h
-
 -- the node of a received spawn has right values
 shown_right : (s : Scene) → IsValidScene s → (nodes : List Live) (c : ℤ) (m : SpawnMsg) → IsAdmitted s nodes c m → is_sound_spawn m ≡ true → has_right_values (shown_node s c m) ≡ true
 shown_right s v nodes c m a h =
@@ -222,7 +294,7 @@ shown_right s v nodes c m a h =
     let sound = and_parts (is_sound_argument m.arg) (list_all is_sound m.values) h in
     assign_all_right (shown_spawn_props s m) m.values (assign_argument (custom_prop s m.spawner) m.arg (shown_props s m))
     (all_both is_sound fits m.values sound.1 (values_short defs m a.values))
-    (argument_right (custom_prop s m.spawner) m.arg (shown_props s m) sound.0 (argument_short defs m a.values) (defaults_right s v (shown_place s m)))
+    (given_right (custom_prop s m.spawner) m.arg (shown_props s m) (right_argument m.arg sound.0 (argument_short defs m a.values)) (defaults_right s v (shown_place s m)))
 
 -- a spawn of another peer
 pub fits_shown : (me c : ℤ) (t : TreeOf) (k : Track) (m : SpawnMsg) → int_eq c me ≡ false → is_sound_spawn m ≡ true → Fits me t k → Fits me (shown_spawn c m t).1 k

@@ -1,7 +1,7 @@
 -- What is kept judges an event as the definitions do.
-use Rattle.std.proofs.Common.{◌≡◌, ℕ, suc, ◌+◌, ℤ, pos, Bool, true, false, cond, not, ◌&&◌, ◌||◌, List, [], ◌∷◌, ◌++◌, refl, sym, ap, ap₂, ◌∙◌, subst, arith, length, map, filter, reverse, is_some, Option, Some, None}
-use Rattle.std.specs.Prelude.{flat_map, is_none, nat_le, nat_lt, int_lt, if◌then◌else◌}
-use Rattle.std.specs.List.{list_any}
+use Rattle.std.proofs.Common.{◌≡◌, ℕ, suc, ℤ, pos, Bool, true, false, cond, not, ◌&&◌, ◌||◌, List, [], ◌∷◌, refl, sym, ap, ap₂, ◌∙◌, subst, arith, length, map, filter, reverse, is_some, Option, Some, None}
+use Rattle.std.specs.Prelude.{slice_get, option_and_then, is_none, nat_le, nat_lt, int_lt, if◌then◌else◌}
+use Rattle.std.specs.List.{list_any, Contains}
 use Rattle.std.specs.Ordering.{int_eq}
 use Rattle.std.proofs.lemmas.Grind.{reverse_onto}
 use Rattle.std.proofs.lemmas.List.Folds.{list_any-append}
@@ -12,28 +12,39 @@ use Rattle.scene_model.specs.declared.scene.SpawnerDef.{SpawnerDef}
 use Rattle.scene_model.specs.declared.spawn.SpawnMsg.{SpawnMsg}
 use Rattle.scene_model.specs.declared.event.SpawnOp.{SpawnOp}
 use Rattle.scene_model.specs.declared.outcome.Refusal.{Refusal}
-use Rattle.scene_model.specs.declared.outcome.Refusal.TheVariants.{NoNode, NoSpawner, NotAuthority, NoScene, BadName, NameTaken, SpawnLimit, NodesFull, NetIdsFull, ValueTooLong, BadPeer, PeersFull, NoPeer}
+use Rattle.scene_model.specs.declared.outcome.Refusal.TheVariants.{NoNode, NotAuthority, BadPeer, PeersFull, NoPeer, NoSync, VisFull}
 use Rattle.scene_model.specs.declared.outcome.Fault.TheVariants as fault
-use Rattle.scene_model.specs.Paths.{is_name}
 use Rattle.scene_model.specs.Lookup.{spawner_at}
+use Rattle.scene_model.specs.Valid.{IsValidScene}
 use Rattle.peer_model.specs.Heard.{Who, Heard, is_server, server}
 use Rattle.peer_model.specs.Peers.{is_up, was_up, peers_come, peers_up}
-use Rattle.peer_model.specs.Rows.{OwnRow, own_rows, next_number, spawned_path, spawned_scene, syncs_at}
-use Rattle.peer_model.specs.Values.{scene_made, props_in}
+use Rattle.peer_model.specs.Rows.{OwnRow, own_rows, syncs_at}
 use Rattle.peer_model.specs.Updates.{Live, live_at}
-use Rattle.peer_model.specs.View.{tree_of, view}
-use Rattle.peer_model.specs.Refusals.{most_rows, most_net_id, most_clients, owns, may_make, setting_refusals, argument_fits, limit_reached, last_number, spawn_refused, spawn_refusal, set_refusal, up_refusal, down_refusal}
-use Rattle.peer_model.specs.Faults.{link_fault, spawn_fault}
+use Rattle.peer_model.specs.View.{tree_of, node_at, view}
+use Rattle.peer_model.specs.Refusals.{most_clients, owns, limit_reached, last_number, spawn_refused, spawn_refusal, set_refusal, despawn_refusal, sight_refusal, named_syncs, up_refusal, down_refusal}
+use Rattle.peer_model.specs.Faults.{link_fault, spawn_fault, despawn_fault}
 use Rattle.peer_model.proofs.Links.{was_up_come}
+use Rattle.headless_tree.specs.Nodes.{is_row_of}
+use Rattle.peer_laws.specs.Built.{AllAccepted}
 use Rattle.peer_laws.specs.Facts.{rows_under}
 use Rattle.peer_laws.proofs.Numbers.{int_is}
 use Rattle.peer_laws.proofs.Ups.{has_up}
+use Rattle.peer_laws.proofs.FactsOf.{facts}
+use Rattle.sight_laws.specs.Sights.{Sight, RowSight, Sights, row_sight}
+use Rattle.sight_laws.proofs.Kept.{row_sight_found}
+use Rattle.sight_laws.specs.Seen.{all_sights}
+use Rattle.peer_steps.specs.Track.{SightChange, sight_at, row_sight_at, fixed_sight_at}
+use Rattle.peer_steps.proofs.OwnRows.{IsFixedAt, own_at, fixed_at, fixed_stands}
 use Rattle.peer_steps.specs.Rows.{kept_row}
 use Rattle.peer_steps.specs.Kept.{Kept}
 use Rattle.peer_steps.specs.Spawns.{rows_of_spawner, is_at_limit, spawn_judged, shown_judged}
 use Rattle.peer_steps.specs.Peers.{comes_judged}
-use Rattle.peer_steps.specs.Judged.{lacks_server, set_judged, link_judged}
+use Rattle.peer_steps.specs.Judged.{lacks_server, set_judged, despawn_judged, sight_judged, hidden_judged, link_judged}
 use Rattle.peer_steps.specs.Stands.{HasParts}
+
+-- the table of a setting, by its tests
+abbrev sight_why : Bool → Bool → Bool → Bool → Option Refusal
+sight_why gone named own full = first_of (when gone NoNode ∷ when (not named) NoSync ∷ when (not own) NotAuthority ∷ when full VisFull ∷ [])
 
 -- links
 
@@ -144,3 +155,64 @@ set_judged_is k es h path prop value = ap (λ ns. set_judged k.who ns path prop 
 pub shown_judged_is : (k : Kept) (es : List Heard) → HasParts k es → (c : ℤ) (m : SpawnMsg) → rows_under c (tree_of k.who es) ≡ (view k.who es c).rows
     → shown_judged k.who.scene k.nodes c m ≡ spawn_fault k.who es c m (view k.who es c).rows
 shown_judged_is k es h c m under = ap (λ ns. shown_judged k.who.scene ns c m) h.nodes ∙ ap (spawn_fault k.who es c m) under
+
+-- despawns
+
+pub despawn_judged_is : (k : Kept) (es : List Heard) → HasParts k es → (path : List ℕ) → despawn_judged k.who k.nodes path ≡ despawn_refusal k.who es path
+despawn_judged_is k es h path = ap (λ ns. despawn_judged k.who ns path) h.nodes
+
+-- a received despawn is judged beside the rows that its sender has in the tree
+pub hidden_judged_is : (k : Kept) (es : List Heard) → HasParts k es → (c : ℤ) (net : ℕ) → rows_under c (tree_of k.who es) ≡ (view k.who es c).rows → hidden_judged k.nodes c net ≡ despawn_fault net (view k.who es c).rows
+hidden_judged_is k es h c net under = ap (λ ns. hidden_judged ns c net) h.nodes ∙ ap (despawn_fault net) under
+
+-- settings of visibility
+
+-- who sees the own rows and the fixed synchronizers is what the definitions give
+pub sights_are : (k : Kept) (es : List Heard) → HasParts k es → k.track.sights ≡ all_sights k.who es
+sights_are k es h = ap₂ {C = Sights} (λ rs fs. record { rows = rs; fixed = fs }) h.seen h.fixed
+
+-- whether there is no room matters only where a synchronizer of this peer is named
+sight_judged_by : (who : Who) (o : Option Live) (k : ℕ) (a b : Bool) → ((n : Live) → o ≡ Some n → nat_lt k (named_syncs who n) ≡ true → int_eq n.auth who.id ≡ true → a ≡ b)
+    → sight_why (is_none o) (some_is (λ n. nat_lt k (named_syncs who n)) o) (owns who o) a ≡ sight_why (is_none o) (some_is (λ n. nat_lt k (named_syncs who n)) o) (owns who o) b
+sight_judged_by who None k a b h = refl
+sight_judged_by who (Some n) k a b h = by (nat_lt k (named_syncs who n)) (int_eq n.auth who.id) (h n refl)
+  where
+    by : (named own : Bool) → (named ≡ true → own ≡ true → a ≡ b) → sight_why false named own a ≡ sight_why false named own b
+    by true true same = ap (sight_why false true true) (same refl refl)
+    by true false same = refl
+    by false own same = refl
+
+-- a synchronizer of this peer at a path and a place is as full as this, by what is kept of it
+pub record IsFull (who : Who) (es : List Heard) (path : List ℕ) (k : ℕ) (test : Sight → Bool) (full : Bool) : Type 0 where
+  pub row : (r : OwnRow) → Contains (own_rows who es) r → r.path ≡ path → nat_lt k (length (syncs_at who.scene (Some r.place))) ≡ true → some_is test (slice_get (row_sight who es r).syncs k) ≡ full
+  pub fixed : (at : IsFixedAt who path k) → int_eq at.node.auth who.id ≡ true → some_is test (fixed_sight_at path (all_sights who es).fixed) ≡ full
+
+module _ (who : Who) (es : List Heard) (path : List ℕ) (k : ℕ) (test : Sight → Bool) (full : Bool) (v : IsValidScene who.scene) (all : AllAccepted who es) (is : IsFull who es path k test full) where
+  full_row : (n : Live) → node_at who es path ≡ Some n → nat_lt k (named_syncs who n) ≡ true → is_row_of who.id n ≡ true → some_is test (sight_at (all_sights who es) (node_at who es path) path k) ≡ full
+  full_row n there low row =
+      let own = own_at who es v all (facts who es v all) path n there row in
+      ap (λ o. some_is test (sight_at (all_sights who es) o path k)) own.there
+      ∙ ap (λ o. some_is test (option_and_then (λ (x : RowSight). slice_get x.syncs k) o)) (row_sight_found who es own.row own.has)
+      ∙ is.row own.row own.has own.path_is (ap (some_is (λ m. nat_lt k (named_syncs who m))) (sym own.there ∙ there) ∙ low)
+
+  full_fixed : (n : Live) → node_at who es path ≡ Some n → nat_lt k (named_syncs who n) ≡ true → int_eq n.auth who.id ≡ true → n.place ≡ None → some_is test (sight_at (all_sights who es) (node_at who es path) path k) ≡ full
+  full_fixed n there low own unplaced =
+      let at = fixed_at who es path k n unplaced there low in
+      ap (λ o. some_is test (sight_at (all_sights who es) o path k)) there
+      ∙ ap (λ q. some_is test (if some_is (λ (p : ℕ). true) q then row_sight_at n.num k (all_sights who es).rows else fixed_sight_at path (all_sights who es).fixed)) unplaced
+      ∙ is.fixed at (ap (λ a. int_eq a who.id) (sym (fixed_stands who es path k n at there)) ∙ own)
+
+  -- so it is where a setting names it
+  full_at : (n : Live) → node_at who es path ≡ Some n → nat_lt k (named_syncs who n) ≡ true → int_eq n.auth who.id ≡ true → some_is test (sight_at (all_sights who es) (node_at who es path) path k) ≡ full
+  full_at n there low own = by n.place refl
+    where
+      by : (p : Option ℕ) → n.place ≡ p → some_is test (sight_at (all_sights who es) (node_at who es path) path k) ≡ full
+      by None e = full_fixed n there low own e
+      by (Some p) e = full_row n there low (ap₂ (λ a b. a && b) (ap is_some e) own)
+
+-- a setting is judged as the definitions do, where the synchronizer that it names is as full as they say
+pub sight_judged_is : (k : Kept) (es : List Heard) → HasParts k es → (path : List ℕ) (n : ℕ) (c : SightChange) (full : Bool) → IsFull k.who es path n c.is_full full
+    → sight_judged k.who k.nodes path n (some_is c.is_full (sight_at k.track.sights (live_at k.nodes path) path n)) ≡ sight_refusal k.who es path n full
+sight_judged_is k es h path n c full is =
+    ap₂ (λ ns v. sight_judged k.who ns path n (some_is c.is_full (sight_at v (live_at ns path) path n))) h.nodes (sights_are k es h)
+    ∙ sight_judged_by k.who (node_at k.who es path) n (some_is c.is_full (sight_at (all_sights k.who es) (node_at k.who es path) path n)) full (full_at k.who es path n c.is_full full h.valid h.accepted is)

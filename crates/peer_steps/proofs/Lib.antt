@@ -13,9 +13,14 @@ pub mod Admitted
 pub mod Putting
 pub mod Parents
 pub mod Put
+pub mod OwnRows
 pub mod Judging
 pub mod Accepted
 pub mod Packets
+pub mod LinkSteps
+pub mod OwnSteps
+pub mod SightSteps
+pub mod ReceivedSteps
 pub mod Whole
 pub mod Clauses
 pub mod Fitting

@@ -7,15 +7,17 @@ use Rattle.scene_model.specs.declared.scene.Scene.{Scene}
 use Rattle.scene_model.specs.declared.event.SpawnOp.{SpawnOp}
 use Rattle.scene_model.specs.Paths.{joined}
 use Rattle.peer_model.specs.Rows.{syncs_at, spawned_scene}
+use Rattle.peer_model.specs.Values.{argument_prop}
 use Rattle.peer_model.specs.Updates.{Live}
 use Rattle.headless_tree.specs.Nodes.{TreeOf, row_before, spawned_node}
 use Rattle.headless_tree.specs.Numbers.{are_new}
+use Rattle.peer_laws.proofs.Rows.{length-count_from}
 use Rattle.peer_steps.specs.declared.rows.SpawnedRow.{SpawnedRow}
 use Rattle.peer_steps.specs.declared.site.Site.{Site}
+use Rattle.peer_steps.specs.Arrivals.{argument_assigned}
 use Rattle.peer_steps.specs.Rights.{has_right_values, is_right_row}
 use Rattle.peer_steps.specs.Sites.{MaySpawn, who_at, own_made, with_made, after_made, site_row, with_settings}
 use Rattle.peer_steps.proofs.SpawnMade.{spawn_within, spawn_new, spawn_row, spawn_nodes, spawn_values, spawn_row_right}
-use Rattle.peer_laws.proofs.Sight.{length-count_from}
 
 -- the row as its parts were made of the scene that a call showed
 pub row_told : (s shown : Scene) (num : ℕ) (o : SpawnOp) (x : Site) (r : SpawnedRow) → shown ≡ s → r ≡ site_row shown num o x → r ≡ site_row s num o x
@@ -27,14 +29,17 @@ added_within id s nodes num o x r m e = subst (λ p. p < length s.scenes) (sym (
 pub added_new : (id : ℤ) (s : Scene) (nodes : List Live) (num : ℕ) (o : SpawnOp) (x : Site) (r : SpawnedRow) → MaySpawn (who_at id s) nodes num o x → r ≡ site_row s num o x → are_new id num r.ids nodes ≡ true
 added_new id s nodes num o x r m e = ap (λ (q : SpawnedRow). are_new id num q.ids nodes) e ∙ spawn_new (who_at id s) nodes num o x m
 
-pub added_tree : (id : ℤ) (old mid new : TreeOf) (num : ℕ) (o : SpawnOp) (x : Site) (r : SpawnedRow) (sets : List Prop) → MaySpawn (who_at id old.scene) old.nodes num o x → r ≡ site_row old.scene num o x
-    → mid ≡ record old { nodes = put_by row_before (spawned_node old.scene (joined x.under o.name) id num r.ids r.place) old.nodes }
+pub added_tree : (id : ℤ) (old put mid new : TreeOf) (num : ℕ) (o : SpawnOp) (x : Site) (r : SpawnedRow) (sets : List Prop) → MaySpawn (who_at id old.scene) old.nodes num o x → r ≡ site_row old.scene num o x
+    → put ≡ record old { nodes = put_by row_before (spawned_node old.scene (joined x.under o.name) id num r.ids r.place) old.nodes }
+    → mid ≡ record put { nodes = argument_assigned x.path (argument_prop (who_at id put.scene) o) o.arg put.nodes }
     → new ≡ record mid { nodes = with_settings x.path sets mid.nodes } → sets ≡ o.sets
     → new ≡ record old { nodes = with_made id old.scene num o old.nodes }
-added_tree id old mid new num o x r sets m e put set same =
+added_tree id old put mid new num o x r sets m e placed given set same =
+    let after : TreeOf → List Prop → TreeOf = λ t ps. record t { nodes = with_settings x.path ps (argument_assigned x.path (argument_prop (who_at id t.scene) o) o.arg t.nodes) } in
     set
-    ∙ ap₂ (λ (t : TreeOf) ps. record t { nodes = with_settings x.path ps t.nodes }) put same
-    ∙ ap (λ (q : SpawnedRow). record old { nodes = with_settings x.path o.sets (put_by row_before (spawned_node old.scene (joined x.under o.name) id num q.ids q.place) old.nodes) }) e
+    ∙ ap (λ (t : TreeOf). record t { nodes = with_settings x.path sets t.nodes }) given
+    ∙ ap₂ after placed same
+    ∙ ap (λ (q : SpawnedRow). after (record old { nodes = put_by row_before (spawned_node old.scene (joined x.under o.name) id num q.ids q.place) old.nodes }) o.sets) e
     ∙ ap (λ ns. record old { nodes = ns }) (spawn_nodes (who_at id old.scene) old.nodes num o x m)
 
 pub made_is : (id : ℤ) (s : Scene) (nodes : List Live) (num : ℕ) (o : SpawnOp) (x : Site) (r : SpawnedRow) → MaySpawn (who_at id s) nodes num o x → r ≡ site_row s num o x → r ≡ own_made id s num o

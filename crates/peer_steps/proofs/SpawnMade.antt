@@ -3,7 +3,7 @@ use Rattle.std.proofs.Common.{◌≡◌, ℕ, suc, ◌+◌, ◌<◌, ◌≤◌, 
 use Rattle.std.specs.Prelude.{option_map, option_and_then, is_none, nat_eq, nat_le, nat_lt, IfSome, if◌then◌else◌}
 use Rattle.std.specs.List.{list_any, list_all}
 use Rattle.std.proofs.lemmas.Bool.Decides.{nat_tests}
-use Rattle.std.proofs.lemmas.Bool.{and_parts, or_parts, or_from}
+use Rattle.std.proofs.lemmas.Bool.{true≢false, and_parts, or_parts, or_from}
 use Rattle.gd_variant.specs.declared.value.Variant.{Variant}
 use Rattle.gd_variant.specs.Size.{value_size}
 use Rattle.gd_variant.specs.Sound.{is_sound}
@@ -15,23 +15,27 @@ use Rattle.scene_model.specs.declared.scene.SpawnerDef.{SpawnerDef}
 use Rattle.scene_model.specs.declared.event.SpawnOp.{SpawnOp}
 use Rattle.scene_model.specs.declared.outcome.Refusal.TheVariants.{NoNode, NoSpawner, NotAuthority, NoScene, BadName, NameTaken, SpawnLimit, NodesFull, NetIdsFull, NoProp, ValueTooLong}
 use Rattle.scene_model.specs.Paths.{is_name, joined}
-use Rattle.scene_model.specs.Lookup.{spawner_at, scene_at, scene_place, has_prop}
+use Rattle.scene_model.specs.Lookup.{spawner_at, scene_at, has_prop}
 use Rattle.scene_model.specs.Valid.{IsValidScene, value_long, scene_why}
 use Rattle.peer_model.specs.Heard.{Who}
 use Rattle.peer_model.specs.Rows.{OwnRow, spawned_path, spawned_scene, syncs_at, count_from}
-use Rattle.peer_model.specs.Values.{scene_made, props_in}
-use Rattle.peer_model.specs.Updates.{Live, live_at, assign, assign_all}
+use Rattle.peer_model.specs.Values.{scene_made, props_in, argument_prop}
+use Rattle.peer_model.specs.Updates.{Live, live_at, assign, assign_all, assign_argument}
 use Rattle.peer_model.specs.View.{fits}
 use Rattle.peer_model.specs.Changes.{scene_byte}
-use Rattle.peer_model.specs.Refusals.{most_rows, most_net_id, owns, may_make}
+use Rattle.peer_model.specs.Refusals.{most_rows, most_net_id, owns, may_make, argument_fits}
 use Rattle.headless_tree.specs.Nodes.{row_before, spawned_node, is_row_of}
 use Rattle.headless_tree.specs.Numbers.{has_number, is_new, are_new}
 use Rattle.headless_tree.proofs.Numbered.{all_at, and_true}
-use Rattle.peer_steps.specs.Rights.{is_right_value, are_right, has_right_values, is_before, is_right_row}
+use Rattle.peer_laws.specs.Built.{is_empty}
 use Rattle.peer_laws.specs.Shown.{spawned_live, settings}
 use Rattle.peer_laws.proofs.Tests.{no_row, not_false, first_none, some_of}
 use Rattle.peer_laws.proofs.Each.{all-put_by}
-use Rattle.peer_laws.proofs.Scenes.{scene_props_apart, all_right, scenes_right, right_def, named_at_is_placed}
+use Rattle.peer_laws.proofs.Scenes.{scene_props_apart, all_right, scenes_right, right_def}
+use Rattle.peer_laws.proofs.TreeSpawns.{made_is_placed}
+use Rattle.peer_laws.proofs.Rows.{length-count_from}
+use Rattle.peer_steps.specs.Rights.{is_right_value, are_right, has_right_values, is_before, is_right_byte, is_right_argument, is_right_row}
+use Rattle.peer_steps.specs.Arrivals.{argument_assigned}
 use Rattle.peer_steps.specs.declared.rows.SpawnedRow.{SpawnedRow}
 use Rattle.peer_steps.specs.declared.site.Site.{Site}
 use Rattle.peer_steps.specs.Rows.{kept_row, row_of_spawn}
@@ -39,8 +43,8 @@ use Rattle.peer_steps.specs.Spawns.{is_at_limit, spawn_judged}
 use Rattle.peer_steps.specs.Sites.{IsSite, IsWelcome, MaySpawn, byte_in, has_short, sets_judged, argument_judged, values_judged, room_judged, rest_judged, spawner_judged, name_judged, with_settings, site_row, props_at}
 use Rattle.peer_steps.proofs.SpawnParts.{spawn_in_parts, path_of_spawn, scene_of_spawn, few_scenes}
 use Rattle.peer_steps.proofs.Settled.{settled}
+use Rattle.peer_steps.proofs.Putting.{with_values, argument_put, argument_apart}
 use Rattle.peer_steps.proofs.Assigned.{none_from}
-use Rattle.peer_laws.proofs.Sight.{length-count_from}
 
 -- settings that aren't refused are short
 pub sets_short : (props sets : List Prop) → sets_judged props sets ≡ None → list_all has_short sets ≡ true
@@ -57,13 +61,11 @@ sets_short props (p ∷ ps) h =
 within_ids : (n : ℕ) → nat_lt most_net_id n ≡ false → n ≤ 2147483647
 within_ids n h = grind (arith, nat_tests)
 
--- by its spawner and its scene
-welcome_by : (who : Who) (nodes : List Live) (rows : List SpawnedRow) (next : ℕ) (o : SpawnOp) (d : Option SpawnerDef) (n : Option (List ℕ)) → spawner_at who.scene o.spawner ≡ d → o.scene ≡ n → is_some n ≡ true
-    → some_is (may_make o) d ≡ true
+-- by its spawner
+welcome_by : (who : Who) (nodes : List Live) (rows : List SpawnedRow) (next : ℕ) (o : SpawnOp) (d : Option SpawnerDef) → spawner_at who.scene o.spawner ≡ d → some_is (may_make o) d ≡ true
     → first_some (name_judged nodes o.name (spawned_path who o)) (rest_judged who.scene rows next d o (spawned_scene who o)) ≡ None → IsWelcome who nodes next o
-welcome_by who nodes rows next o None n found named there made rest = absurd (cc made)
-welcome_by who nodes rows next o (Some d) None found named there made rest = absurd (cc there)
-welcome_by who nodes rows next o (Some d) (Some t) found named there made rest =
+welcome_by who nodes rows next o None found made rest = absurd (cc made)
+welcome_by who nodes rows next o (Some d) found made rest =
     let name_rest = first_none (name_judged nodes o.name (spawned_path who o)) (rest_judged who.scene rows next (Some d) o (spawned_scene who o)) rest in
     let name = no_row (not (is_name o.name)) BadName _ name_rest.0 in
     let free = no_row (is_some (live_at nodes (spawned_path who o))) NameTaken [] name.1 in
@@ -75,21 +77,17 @@ welcome_by who nodes rows next o (Some d) (Some t) found named there made rest =
     let values = first_none (sets_judged (props_at who.scene (spawned_scene who o)) o.sets) (argument_judged o.arg) room_values.1 in
     record {
       spawner = d;
-      scene = t;
       found = found;
-      named = named;
-      listed = has_listed d made;
+      makes = made;
       name = not_false (is_name o.name) name.0;
       free = none_from (live_at nodes (spawned_path who o)) free.0;
       room = within_ids (next + length (syncs_at who.scene (spawned_scene who o))) ids.0;
       short = sets_short (props_at who.scene (spawned_scene who o)) o.sets values.0;
+      argument = not_false (argument_fits o.arg) (no_row (not (argument_fits o.arg)) ValueTooLong [] values.1).0;
     }
-  where
-    has_listed : (e : SpawnerDef) → may_make o e ≡ true → has_text t e.scenes ≡ true
-    has_listed e m = rw named at m
 
-pub welcome : (who : Who) (nodes : List Live) (rows : List SpawnedRow) (next : ℕ) (o : SpawnOp) → is_some o.scene ≡ true → spawn_judged who nodes rows next o ≡ None → IsWelcome who nodes next o
-welcome who nodes rows next o there h =
+pub welcome : (who : Who) (nodes : List Live) (rows : List SpawnedRow) (next : ℕ) (o : SpawnOp) → spawn_judged who nodes rows next o ≡ None → IsWelcome who nodes next o
+welcome who nodes rows next o h =
     let d = spawner_at who.scene o.spawner in
     let made_row = when (not (some_is (may_make o) d)) NoScene ∷ [] in
     let owned_row = when (not (owns who (live_at nodes o.spawner))) NotAuthority ∷ made_row in
@@ -98,7 +96,7 @@ welcome who nodes rows next o there h =
     let spawner = no_row (is_none d) NoSpawner owned_row node.1 in
     let owned = no_row (not (owns who (live_at nodes o.spawner))) NotAuthority made_row spawner.1 in
     let made = no_row (not (some_is (may_make o) d)) NoScene [] owned.1 in
-    welcome_by who nodes rows next o d o.scene refl refl there (not_false (some_is (may_make o) d) made.0) parts.1
+    welcome_by who nodes rows next o d refl (not_false (some_is (may_make o) d) made.0) parts.1
 
 -- the place of a listed text
 pub place_below : (t : List ℕ) (ts : List (List ℕ)) (other : ℕ) → has_text t ts ≡ true → or_else (place_of t ts) other < length ts
@@ -120,11 +118,10 @@ pub record IsPlaced (who : Who) (o : SpawnOp) (x : Site) : Type 0 where
   pub here : x.place ≡ Some at
   pub made : spawned_scene who o ≡ Some at
 
-pub placed : (who : Who) (nodes : List Live) (next : ℕ) (o : SpawnOp) (x : Site) → IsValidScene who.scene → is_some o.scene ≡ true → IsWelcome who nodes next o → IsSite who.scene (spawner_at who.scene o.spawner) o x → IsPlaced who o x
-placed who nodes next o x v there w site =
-    let here = some_of (scene_place who.scene w.scene) (named_at_is_placed who.scene v o.spawner w.spawner w.scene w.found w.listed) in
-    let at = site.place ∙ ap (option_and_then (scene_place who.scene)) w.named ∙ here.1 in
-    record { at = here.0; here = at; made = scene_of_spawn who o there ∙ sym site.place ∙ at }
+pub placed : (who : Who) (nodes : List Live) (next : ℕ) (o : SpawnOp) (x : Site) → IsValidScene who.scene → IsWelcome who nodes next o → IsSite who.scene (spawner_at who.scene o.spawner) o x → IsPlaced who o x
+placed who nodes next o x v w site =
+    let here = some_of (spawned_scene who o) (made_is_placed who v o w.spawner w.found w.makes) in
+    record { at = here.0; here = site.place ∙ sym (scene_of_spawn who o) ∙ here.1; made = here.1 }
 
 same_place : (who : Who) (o : SpawnOp) (x : Site) → IsPlaced who o x → x.place ≡ spawned_scene who o
 same_place who o x p = p.here ∙ sym p.made
@@ -146,20 +143,26 @@ made_row who next o x p site =
     ∙ ap₂ (λ q b. row_at (spawned_scene who o) q b) (site_path who o x site) (site.byte ∙ sym (byte_by who (row_of_spawn who next o) o.scene refl))
   where
     row_at : Option ℕ → List ℕ → ℕ → SpawnedRow
-    row_at place path byte = record { num = next; ids = count_from (next + 1) (syncs_at who.scene place); path = path; place = or_else place 0; spawner = o.spawner; byte = byte; name = o.name }
+    row_at place path byte = record { num = next; ids = count_from (next + 1) (syncs_at who.scene place); path = path; place = or_else place 0; spawner = o.spawner; byte = byte; name = o.name; arg = o.arg }
 
 defaults_at : (s : Scene) (place : Option ℕ) (at : ℕ) → place ≡ Some at → props_in (scene_at s (or_else place 0)) ≡ props_in (option_and_then (scene_at s) place)
 defaults_at s place at e = rw e refl
 
 -- the nodes with the one that is made
 pub made_nodes : (who : Who) (nodes : List Live) (next : ℕ) (o : SpawnOp) (x : Site) → IsValidScene who.scene → IsWelcome who nodes next o → IsPlaced who o x → IsSite who.scene (spawner_at who.scene o.spawner) o x
-    → with_settings x.path o.sets (put_by row_before (spawned_node who.scene (joined x.under o.name) who.id next (count_from (next + 1) (syncs_at who.scene x.place)) (or_else x.place 0)) nodes)
+    → with_settings x.path o.sets (argument_assigned x.path (argument_prop who o) o.arg (put_by row_before (spawned_node who.scene (joined x.under o.name) who.id next (count_from (next + 1) (syncs_at who.scene x.place)) (or_else x.place 0)) nodes))
     ≡ put_by row_before (spawned_live who (row_of_spawn who next o)) nodes
 made_nodes who nodes next o x v w p site =
-    ap₂ (λ q r. with_settings q o.sets (put_by row_before (spawned_node who.scene r who.id next (count_from (next + 1) (syncs_at who.scene x.place)) (or_else x.place 0)) nodes)) (site_path who o x site) (site_below who o x site)
-    ∙ ap (λ q. with_settings (spawned_path who o) o.sets (put_by row_before (spawned_node who.scene (spawned_path who o) who.id next (count_from (next + 1) (syncs_at who.scene q)) (or_else q 0)) nodes)) (same_place who o x p)
-    ∙ settled (spawned_node who.scene (spawned_path who o) who.id next (count_from (next + 1) (syncs_at who.scene (spawned_scene who o))) (or_else (spawned_scene who o) 0)) nodes o.sets w.free (scene_props_apart who.scene v (or_else (spawned_scene who o) 0))
-    ∙ ap (λ vs. put_by row_before (record (spawned_live who (row_of_spawn who next o)) { values = assign_all (settings o.sets) vs }) nodes) (defaults_at who.scene (spawned_scene who o) p.at p.made)
+    let path = spawned_path who o in
+    let prop = argument_prop who o in
+    let blank : Option ℕ → Live = λ q. spawned_node who.scene path who.id next (count_from (next + 1) (syncs_at who.scene q)) (or_else q 0) in
+    let n = blank (spawned_scene who o) in
+    let apart = scene_props_apart who.scene v (or_else (spawned_scene who o) 0) in
+    ap₂ (λ q r. with_settings q o.sets (argument_assigned q prop o.arg (put_by row_before (spawned_node who.scene r who.id next (count_from (next + 1) (syncs_at who.scene x.place)) (or_else x.place 0)) nodes))) (site_path who o x site) (site_below who o x site)
+    ∙ ap (λ q. with_settings path o.sets (argument_assigned path prop o.arg (put_by row_before (blank q) nodes))) (same_place who o x p)
+    ∙ ap (with_settings path o.sets) (argument_put prop o.arg n nodes w.free apart)
+    ∙ settled (with_values n (assign_argument prop o.arg n.values)) nodes o.sets w.free (argument_apart prop o.arg n.values apart)
+    ∙ ap (λ vs. put_by row_before (record (spawned_live who (row_of_spawn who next o)) { values = assign_all (settings o.sets) (assign_argument prop o.arg vs) }) nodes) (defaults_at who.scene (spawned_scene who o) p.at p.made)
 
 -- properties with right values
 
@@ -176,6 +179,12 @@ assign_right name v (p ∷ ps) right h =
 pub settings_right : (sets props : List Prop) → are_right sets ≡ true → are_right props ≡ true → are_right (assign_all (settings sets) props) ≡ true
 settings_right [] props h k = k
 settings_right (p ∷ ps) props h k = let parts = and_parts (is_right_value p.value) (are_right ps) h in settings_right ps (assign p.name p.value props) parts.1 (assign_right p.name p.value props parts.0 k)
+
+-- an argument is right where the property that takes it may have it
+pub given_right : (name : Option (List ℕ)) (arg : Option Variant) (props : List Prop) → is_right_argument arg ≡ true → are_right props ≡ true → are_right (assign_argument name arg props) ≡ true
+given_right (Some name) (Some value) props h k = assign_right name value props h k
+given_right (Some name) None props h k = k
+given_right None arg props h k = k
 
 not_long_right : (p : Prop) → value_long p ≡ false → is_right_value p.value ≡ true
 not_long_right p h =
@@ -232,11 +241,14 @@ ids_later id k next (x ∷ xs) nodes le h = and_true (is_new id nodes k) (list_a
 pub numbers_new : {X : Type 0} (id : ℤ) (next : ℕ) (xs : List X) (nodes : List Live) → list_all (is_before id next) nodes ≡ true → are_new id next (count_from (next + 1) xs) nodes ≡ true
 numbers_new id next xs nodes h = and_true (is_new id nodes next) (list_all (is_new id nodes) (count_from (next + 1) xs)) (is_later id next next nodes (omega arith) h) (ids_later id (next + 1) next xs nodes (omega arith) h)
 
+lt_is : (a b : ℕ) → a < b → nat_lt a b ≡ true
+lt_is a b h = grind (arith, nat_tests)
+
 -- what a call that makes a spawn needs
 
 module _ (who : Who) (nodes : List Live) (next : ℕ) (o : SpawnOp) (x : Site) (m : MaySpawn who nodes next o x) where
   it_is_placed : IsPlaced who o x
-  it_is_placed = placed who nodes next o x m.valid m.scene m.welcome m.site
+  it_is_placed = placed who nodes next o x m.valid m.welcome m.site
 
   pub spawn_room : next + length (syncs_at who.scene x.place) ≤ 2147483647
   spawn_room = rw (same_place who o x it_is_placed) m.welcome.room
@@ -254,12 +266,14 @@ module _ (who : Who) (nodes : List Live) (next : ℕ) (o : SpawnOp) (x : Site) (
   pub spawn_row : site_row who.scene next o x ≡ kept_row who (row_of_spawn who next o)
   spawn_row = made_row who next o x it_is_placed m.site
 
-  pub spawn_nodes : with_settings x.path o.sets (put_by row_before (spawned_node who.scene (joined x.under o.name) who.id next (count_from (next + 1) (syncs_at who.scene x.place)) (or_else x.place 0)) nodes)
+  pub spawn_nodes : with_settings x.path o.sets (argument_assigned x.path (argument_prop who o) o.arg (put_by row_before (spawned_node who.scene (joined x.under o.name) who.id next (count_from (next + 1) (syncs_at who.scene x.place)) (or_else x.place 0)) nodes))
       ≡ put_by row_before (spawned_live who (row_of_spawn who next o)) nodes
   spawn_nodes = made_nodes who nodes next o x m.valid m.welcome it_is_placed m.site
 
   pub spawn_live_right : has_right_values (spawned_live who (row_of_spawn who next o)) ≡ true
-  spawn_live_right = settings_right o.sets (props_in (scene_made who o)) m.sets (defaults_right who.scene m.valid (spawned_scene who o))
+  spawn_live_right =
+      let props = props_in (scene_made who o) in
+      settings_right o.sets (assign_argument (argument_prop who o) o.arg props) m.sets (given_right (argument_prop who o) o.arg props m.argument (defaults_right who.scene m.valid (spawned_scene who o)))
 
   pub spawn_values : list_all has_right_values (put_by row_before (spawned_live who (row_of_spawn who next o)) nodes) ≡ true
   spawn_values = all-put_by has_right_values row_before (spawned_live who (row_of_spawn who next o)) nodes spawn_live_right m.values
@@ -268,20 +282,31 @@ module _ (who : Who) (nodes : List Live) (next : ℕ) (o : SpawnOp) (x : Site) (
   same_syncs : syncs_at who.scene (Some (or_else (spawned_scene who o) 0)) ≡ syncs_at who.scene (spawned_scene who o)
   same_syncs = rw it_is_placed.made refl
 
-  byte_below : scene_byte who (row_of_spawn who next o) < 255
-  byte_below =
-      let listed = place_below m.welcome.scene m.welcome.spawner.scenes 255 m.welcome.listed in
+  listed_byte : (t : List ℕ) → o.scene ≡ Some t → scene_byte who (row_of_spawn who next o) < 255
+  listed_byte t named =
+      let is_listed : has_text t m.welcome.spawner.scenes ≡ true = rw named at m.welcome.makes in
+      let listed = place_below t m.welcome.spawner.scenes 255 is_listed in
       let few : length m.welcome.spawner.scenes ≤ 255 = few_scenes who.scene m.valid o.spawner (Some m.welcome.spawner) (sym m.welcome.found) in
-      let byte : scene_byte who (row_of_spawn who next o) ≡ or_else (place_of m.welcome.scene m.welcome.spawner.scenes) 255 = byte_by who (row_of_spawn who next o) (Some m.welcome.scene) m.welcome.named ∙ ap (byte_in (Some m.welcome.scene)) m.welcome.found in
+      let byte : scene_byte who (row_of_spawn who next o) ≡ or_else (place_of t m.welcome.spawner.scenes) 255 = byte_by who (row_of_spawn who next o) (Some t) named ∙ ap (byte_in (Some t)) m.welcome.found in
       subst (λ k. k < 255) (sym byte) (omega (arith, listed, few))
+
+  -- the byte is that of a custom spawn exactly where there is an argument
+  byte_right : (n : Option (List ℕ)) (a : Option Variant) → o.scene ≡ n → (is_some n && is_none a || (is_none n && (is_empty o.sets && is_some a))) ≡ true → is_right_byte (scene_byte who (row_of_spawn who next o)) a ≡ true
+  byte_right (Some t) None e built = lt_is _ _ (listed_byte t e)
+  byte_right (Some t) (Some v) e built = absurd (cc built)
+  byte_right None None e built = absurd (true≢false (no_argument (is_empty o.sets) built))
+    where
+      no_argument : (b : Bool) → (b && false) ≡ true → true ≡ false
+      no_argument true h = sym h
+      no_argument false h = sym h
+  byte_right None (Some v) e built = ap (λ k. nat_eq k 255) (byte_by who (row_of_spawn who next o) None e)
 
   pub spawn_row_right : is_right_row who.scene (kept_row who (row_of_spawn who next o)) ≡ true
   spawn_row_right = and_true _ _
       (and_true (is_name o.name) _ m.welcome.name (same_nat _ _ (length-count_from (next + 1) (syncs_at who.scene (spawned_scene who o)) ∙ sym (ap length same_syncs))))
-      (and_true (nat_lt (scene_byte who (row_of_spawn who next o)) 255) (nat_lt (or_else (spawned_scene who o) 0) (length who.scene.scenes)) (lt_is _ _ byte_below) (lt_is _ _ (subst (λ p. or_else p 0 < length who.scene.scenes) (same_place who o x it_is_placed) spawn_within)))
+      (and_true (is_right_byte (scene_byte who (row_of_spawn who next o)) o.arg && is_right_argument o.arg) (nat_lt (or_else (spawned_scene who o) 0) (length who.scene.scenes))
+      (and_true (is_right_byte (scene_byte who (row_of_spawn who next o)) o.arg) (is_right_argument o.arg) (byte_right o.scene o.arg refl m.built) m.argument)
+      (lt_is _ _ (subst (λ p. or_else p 0 < length who.scene.scenes) (same_place who o x it_is_placed) spawn_within)))
     where
       same_nat : (a b : ℕ) → a ≡ b → nat_eq a b ≡ true
       same_nat a b e = grind (arith, nat_tests)
-
-      lt_is : (a b : ℕ) → a < b → nat_lt a b ≡ true
-      lt_is a b h = grind (arith, nat_tests)

@@ -9,6 +9,7 @@ use Rattle.scene_model.specs.declared.scene.Scene.{Scene}
 use Rattle.scene_model.specs.declared.scene.Node.{Node}
 use Rattle.scene_model.specs.declared.scene.SceneDef.{SceneDef}
 use Rattle.scene_model.specs.declared.scene.SpawnerDef.{SpawnerDef}
+use Rattle.scene_model.specs.declared.scene.CustomDef.{CustomDef}
 use Rattle.scene_model.specs.declared.event.SpawnOp.{SpawnOp}
 use Rattle.scene_model.specs.declared.outcome.Refusal.{Refusal}
 use Rattle.scene_model.specs.declared.outcome.Refusal.TheVariants.{NoNode, NoSpawner, NotAuthority, NoScene, BadName, NameTaken, SpawnLimit, NodesFull, NetIdsFull, ValueTooLong}
@@ -26,7 +27,7 @@ use Rattle.peer_laws.proofs.Scenes.{all_right, nodes_right, scenes_right, right_
 use Rattle.peer_steps.specs.declared.rows.SpawnedRow.{SpawnedRow}
 use Rattle.peer_steps.specs.declared.site.Site.{Site}
 use Rattle.peer_steps.specs.Spawns.{is_at_limit, spawn_judged}
-use Rattle.peer_steps.specs.Sites.{IsSite, under_in, spawner_judged, name_judged, rest_judged, named_judged, props_at}
+use Rattle.peer_steps.specs.Sites.{IsSite, under_in, scene_in, spawner_judged, name_judged, rest_judged, named_judged, props_at}
 
 -- the first answer of two lists
 pub first-append : {X : Type 0} (xs ys : List (Option X)) → first_of (xs ++ ys) ≡ first_some (first_of xs) (first_of ys)
@@ -86,12 +87,17 @@ path_by who o (Some d) e = rw e refl
 pub path_of_spawn : (who : Who) (o : SpawnOp) → spawned_path who o ≡ joined (under_in (spawner_at who.scene o.spawner)) o.name
 path_of_spawn who o = path_by who o (spawner_at who.scene o.spawner) refl
 
-scene_by : (who : Who) (o : SpawnOp) (name : Option (List ℕ)) → o.scene ≡ name → is_some name ≡ true → spawned_scene who o ≡ option_and_then (scene_place who.scene) name
-scene_by who o None e h = absurd (cc h)
-scene_by who o (Some name) e h = rw e refl
+scene_by : (who : Who) (o : SpawnOp) (name : Option (List ℕ)) (d : Option SpawnerDef) → o.scene ≡ name → spawner_at who.scene o.spawner ≡ d → spawned_scene who o ≡ option_and_then (scene_place who.scene) (scene_in name d)
+scene_by who o (Some name) d e f = rw e refl
+scene_by who o None None e f = rw (e, f) refl
+scene_by who o None (Some d) e f = custom_by d.custom refl
+  where
+    custom_by : (c : Option CustomDef) → d.custom ≡ c → spawned_scene who o ≡ option_and_then (scene_place who.scene) (scene_in None (Some d))
+    custom_by None g = rw (e, f) (rw g refl)
+    custom_by (Some c) g = rw (e, f) (rw g refl)
 
-pub scene_of_spawn : (who : Who) (o : SpawnOp) → is_some o.scene ≡ true → spawned_scene who o ≡ option_and_then (scene_place who.scene) o.scene
-scene_of_spawn who o h = scene_by who o o.scene refl h
+pub scene_of_spawn : (who : Who) (o : SpawnOp) → spawned_scene who o ≡ option_and_then (scene_place who.scene) (scene_in o.scene (spawner_at who.scene o.spawner))
+scene_of_spawn who o = scene_by who o o.scene (spawner_at who.scene o.spawner) refl refl
 
 -- the parts in order, with the path and the place in them
 abbrev in_parts : Who → List Live → List SpawnedRow → ℕ → SpawnOp → List ℕ → Option ℕ → Option Refusal
@@ -139,10 +145,10 @@ spawn_first who nodes rows next o d a r is judged found = sym (spawn_in_parts wh
 
 -- the rest gives it
 pub spawn_rest : (who : Who) (t : TreeOf) (rows : List SpawnedRow) (next : ℕ) (o : SpawnOp) (x : Site) (d : Option SpawnerDef) (a b : Option Refusal) → who.scene ≡ t.scene
-    → a ≡ None → a ≡ spawner_judged who t.nodes d o → d ≡ spawner_at who.scene o.spawner → IsSite who.scene (spawner_at who.scene o.spawner) o x → is_some o.scene ≡ true
+    → a ≡ None → a ≡ spawner_judged who t.nodes d o → d ≡ spawner_at who.scene o.spawner → IsSite who.scene (spawner_at who.scene o.spawner) o x
     → b ≡ named_judged t rows next d o x → b ≡ spawn_judged who t.nodes rows next o
-spawn_rest who t rows next o x d a b same is judged found site h more = more
+spawn_rest who t rows next o x d a b same is judged found site more = more
     ∙ ap (λ e. named_judged t rows next e o x) found
     ∙ ap (λ s. first_some (name_judged t.nodes o.name x.path) (rest_judged s rows next (spawner_at who.scene o.spawner) o x.place)) (sym same)
-    ∙ ap₂ (λ p q. first_some (name_judged t.nodes o.name p) (rest_judged who.scene rows next (spawner_at who.scene o.spawner) o q)) (site.path ∙ sym (path_of_spawn who o)) (site.place ∙ sym (scene_of_spawn who o h))
+    ∙ ap₂ (λ p q. first_some (name_judged t.nodes o.name p) (rest_judged who.scene rows next (spawner_at who.scene o.spawner) o q)) (site.path ∙ sym (path_of_spawn who o)) (site.place ∙ sym (scene_of_spawn who o))
     ∙ sym (spawn_in_parts who t.nodes rows next o ∙ ap (λ p. first_some p (first_some (name_judged t.nodes o.name (spawned_path who o)) (rest_judged who.scene rows next (spawner_at who.scene o.spawner) o (spawned_scene who o)))) (sym (ap (λ e. spawner_judged who t.nodes e o) found) ∙ sym judged ∙ is))

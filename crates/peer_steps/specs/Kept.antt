@@ -5,9 +5,9 @@ use Rattle.peer_model.specs.Heard.{Who}
 use Rattle.peer_model.specs.Updates.{Live}
 use Rattle.headless_tree.specs.Nodes.{TreeOf, fixed_nodes}
 use Rattle.peer_steps.specs.Peers.{Peers, no_peers}
-use Rattle.peer_steps.specs.Track.{Track, no_rows}
+use Rattle.peer_steps.specs.Track.{Track, first_track}
 
--- what contracts see of a peer: its number and scene, whether it is spent, the other peers, its nodes, and its own rows
+-- what contracts see of a peer: its number and scene, whether it is spent, the other peers, its nodes, and its own rows with who sees them
 pub record Kept : Type 0 where
   pub who : Who
   pub spent : Bool
@@ -21,4 +21,4 @@ kept_tree k = record { scene = k.who.scene; nodes = k.nodes }
 
 -- a new peer
 abbrev pub new_peer : Scene → ℤ → Kept
-new_peer s id = record { who = record { id = id; scene = s }; spent = false; peers = no_peers id; nodes = fixed_nodes s; track = no_rows }
+new_peer s id = record { who = record { id = id; scene = s }; spent = false; peers = no_peers id; nodes = fixed_nodes s; track = first_track s id }

@@ -1,4 +1,5 @@
 pub mod Rows
+pub mod Arguments
 pub mod Rights
 pub mod Sound
 pub mod Spawns

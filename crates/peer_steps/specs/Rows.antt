@@ -19,4 +19,4 @@ row_of_spawn who next o = record {
 
 -- what is kept of an own row beside its node
 abbrev pub kept_row : Who → OwnRow → SpawnedRow
-kept_row who r = record { num = r.num; ids = r.ids; path = r.path; place = r.place; spawner = r.made_by.spawner; byte = scene_byte who r; name = r.made_by.name }
+kept_row who r = record { num = r.num; ids = r.ids; path = r.path; place = r.place; spawner = r.made_by.spawner; byte = scene_byte who r; name = r.made_by.name; arg = r.made_by.arg }

@@ -1,10 +1,11 @@
 -- Where a spawn puts its node, and the parts of why it is refused.
-use Rattle.std.specs.Prelude.{◌≡◌, ℕ, ◌+◌, ◌<◌, ◌≤◌, ℤ, Bool, true, not, IfSome, List, [], ◌∷◌, flat_map, length, Option, Some, None, is_some, is_none, option_and_then, nat_lt, nat_le, fold}
+use Rattle.std.specs.Prelude.{◌≡◌, ℕ, ◌+◌, ◌<◌, ◌≤◌, ℤ, Bool, true, not, IfSome, List, [], ◌∷◌, flat_map, length, Option, Some, None, is_some, is_none, option_map, option_and_then, nat_lt, nat_le, fold}
 use Rattle.std.specs.List.{list_all}
-use Rattle.gd_variant.specs.Words.{has_text, some_is, or_else, when, first_of, first_some, place_of, put_by}
+use Rattle.gd_variant.specs.Words.{some_is, or_else, when, first_of, first_some, place_of, put_by}
 use Rattle.gd_variant.specs.declared.value.Variant.{Variant}
 use Rattle.scene_model.specs.declared.scene.Prop.{Prop}
 use Rattle.scene_model.specs.declared.scene.SpawnerDef.{SpawnerDef}
+use Rattle.scene_model.specs.declared.scene.CustomDef.{CustomDef}
 use Rattle.scene_model.specs.declared.scene.Scene.{Scene}
 use Rattle.scene_model.specs.declared.event.SpawnOp.{SpawnOp}
 use Rattle.scene_model.specs.declared.outcome.Refusal.{Refusal}
@@ -24,7 +25,8 @@ use Rattle.peer_steps.specs.Rows.{kept_row, row_of_spawn}
 use Rattle.peer_steps.specs.declared.rows.SpawnedRow.{SpawnedRow}
 use Rattle.peer_steps.specs.declared.site.Site.{Site}
 use Rattle.peer_steps.specs.Spawns.{is_at_limit}
-use Rattle.peer_steps.specs.Rights.{has_right_values, are_right, is_before}
+use Rattle.peer_steps.specs.Rights.{has_right_values, are_right, is_before, is_right_argument}
+use Rattle.peer_steps.specs.Arguments.{is_right_spawn}
 
 -- the place of a scene's name in a spawner's list
 abbrev pub byte_in : Option (List ℕ) → Option SpawnerDef → ℕ
@@ -36,11 +38,16 @@ abbrev pub under_in : Option SpawnerDef → List ℕ
 under_in None = []
 under_in (Some d) = d.under
 
--- where a spawn by scene puts its node, by its spawner
+-- the scene's name that a spawn means: its own, or the one of the spawner's custom spawn
+abbrev pub scene_in : Option (List ℕ) → Option SpawnerDef → Option (List ℕ)
+scene_in (Some name) d = Some name
+scene_in None d = option_map (λ (c : CustomDef). c.scene) (option_and_then (λ (e : SpawnerDef). e.custom) d)
+
+-- where a spawn puts its node, by its spawner
 pub record IsSite (s : Scene) (d : Option SpawnerDef) (o : SpawnOp) (x : Site) : Type 0 where
   pub under : x.under ≡ under_in d
   pub path : x.path ≡ joined (under_in d) o.name
-  pub place : x.place ≡ option_and_then (scene_place s) o.scene
+  pub place : x.place ≡ option_and_then (scene_place s) (scene_in o.scene d)
   pub byte : x.byte ≡ byte_in o.scene d
 
 -- why a spawner makes no such node
@@ -106,31 +113,32 @@ site_row s num o x = record {
   spawner = o.spawner;
   byte = x.byte;
   name = o.name;
+  arg = o.arg;
 }
 
 -- whether a node may have a property's value
 abbrev pub has_short : Prop → Bool
 has_short p = fits p.value
 
--- what is known of a spawn by scene that isn't refused
+-- what is known of a spawn that isn't refused
 pub record IsWelcome (who : Who) (nodes : List Live) (next : ℕ) (o : SpawnOp) : Type 0 where
   pub spawner : SpawnerDef
-  pub scene : List ℕ
   pub found : spawner_at who.scene o.spawner ≡ Some spawner
-  pub named : o.scene ≡ Some scene
-  pub listed : has_text scene spawner.scenes ≡ true
+  pub makes : may_make o spawner ≡ true
   pub name : is_name o.name ≡ true
   pub free : live_at nodes (spawned_path who o) ≡ None
   pub room : next + length (syncs_at who.scene (spawned_scene who o)) ≤ 2147483647
   pub short : list_all has_short o.sets ≡ true
+  pub argument : argument_fits o.arg ≡ true
 
 -- a spawn that can be made among nodes that are right
 pub record MaySpawn (who : Who) (nodes : List Live) (next : ℕ) (o : SpawnOp) (x : Site) : Type 0 where
   pub valid : IsValidScene who.scene
   pub values : list_all has_right_values nodes ≡ true
   pub before : list_all (is_before who.id next) nodes ≡ true
-  pub scene : is_some o.scene ≡ true
+  pub built : is_right_spawn o ≡ true
   pub sets : are_right o.sets ≡ true
+  pub argument : is_right_argument o.arg ≡ true
   pub site : IsSite who.scene (spawner_at who.scene o.spawner) o x
   pub within : IfSome x.place (λ i. i < length who.scene.scenes)
   pub welcome : IsWelcome who nodes next o

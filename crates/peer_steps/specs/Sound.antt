@@ -1,20 +1,21 @@
 -- Values that come with an event are sound.
-use Rattle.std.specs.Prelude.{Bool, true, ◌&&◌, Option, Some, None}
+use Rattle.std.specs.Prelude.{Bool, true, ◌&&◌, Option, Some}
 use Rattle.std.specs.List.{list_all}
 use Rattle.gd_variant.specs.Sound.{is_sound}
-use Rattle.gd_variant.specs.declared.value.Variant.{Variant}
 use Rattle.gd_variant.specs.declared.message.Message.{Message}
 use Rattle.scene_model.specs.declared.spawn.SpawnMsg.{SpawnMsg}
 use Rattle.scene_model.specs.declared.scene.Prop.{Prop}
 use Rattle.scene_model.specs.declared.event.Op.{Op}
-use Rattle.scene_model.specs.declared.event.Op.TheVariants.{Spawn, Set}
+use Rattle.scene_model.specs.declared.event.Op.TheVariants.{Spawn, Custom, Set}
+use Rattle.peer_steps.specs.Arguments.{is_sound_argument}
 use Rattle.scene_model.specs.declared.event.Event.{Event}
 use Rattle.scene_model.specs.declared.event.Event.TheVariants.{Op as Operation}
-use Rattle.peer_steps.specs.Steps.{spawn_read}
+use Rattle.peer_steps.specs.Steps.{RowNews, appears, row_read}
 
 -- whether the values of an operation are sound
 abbrev pub is_sound_op : Op → Bool
 is_sound_op (Spawn o) = list_all (λ (p : Prop). is_sound p.value) o.sets
+is_sound_op (Custom o) = is_sound_argument o.arg
 is_sound_op (Set path prop value) = is_sound value
 is_sound_op op = true
 
@@ -23,20 +24,15 @@ abbrev pub is_sound_event : Event → Bool
 is_sound_event (Operation op) = is_sound_op op
 is_sound_event e = true
 
--- whether an argument is sound, where there is one
-abbrev pub is_sound_argument : Option Variant → Bool
-is_sound_argument None = true
-is_sound_argument (Some v) = is_sound v
-
 -- whether the values of a spawn are sound
 abbrev pub is_sound_spawn : SpawnMsg → Bool
 is_sound_spawn m = is_sound_argument m.arg && list_all is_sound m.values
 
--- the same, where there is a spawn
-abbrev pub is_sound_read : Option SpawnMsg → Bool
-is_sound_read None = true
-is_sound_read (Some m) = is_sound_spawn m
+-- the same, where a row appears
+abbrev pub is_sound_read : Option RowNews → Bool
+is_sound_read (Some (appears m)) = is_sound_spawn m
+is_sound_read n = true
 
 -- whether the values of a message are sound, where it is a spawn
 abbrev pub is_sound_message : Message → Bool
-is_sound_message m = is_sound_read (spawn_read m)
+is_sound_message m = is_sound_read (row_read m)

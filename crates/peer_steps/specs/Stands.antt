@@ -12,6 +12,8 @@ use Rattle.peer_model.specs.Rows.{own_rows, next_number}
 use Rattle.peer_model.specs.View.{tree_of}
 use Rattle.peer_model.specs.Bytes.{PacketForm, heard_of, answer, accepted_events}
 use Rattle.peer_laws.specs.Built.{AllAccepted, is_built_op, is_unbuilt}
+use Rattle.scene_model.specs.Syncs.{fixed_syncers}
+use Rattle.sight_laws.specs.Sights.{row_sight, fixed_sight}
 use Rattle.peer_steps.specs.Rows.{kept_row}
 use Rattle.peer_steps.specs.Kept.{Kept}
 
@@ -26,6 +28,8 @@ pub record HasParts (k : Kept) (es : List Heard) : Type 0 where
   pub nodes : k.nodes ≡ tree_of k.who es
   pub next : k.track.next ≡ next_number k.who es
   pub rows : k.track.rows ≡ map (kept_row k.who) (own_rows k.who es)
+  pub seen : k.track.sights.rows ≡ map (row_sight k.who es) (own_rows k.who es)
+  pub fixed : k.track.sights.fixed ≡ map (fixed_sight k.who es) (fixed_syncers k.who.scene k.who.id)
 
 -- a peer stands for a list of events where it has the parts of the accepted ones
 abbrev pub StandsFor : PacketForm → Kept → List Event → Type 0

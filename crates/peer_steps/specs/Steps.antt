@@ -1,6 +1,6 @@
 -- What a peer answers to an event, and what it keeps then.
-use Rattle.std.specs.Prelude.{◌≡◌, ℕ, ℤ, Bool, true, false, List, [], map, filter, Option, Some, None, Result, Ok, Err, if◌then◌else◌}
-use Rattle.gd_variant.specs.Words.{or_else}
+use Rattle.std.specs.Prelude.{◌≡◌, ℕ, ℤ, Bool, true, false, List, [], ◌∷◌, map, flat_map, Option, Some, None, Result, Ok, Err, if◌then◌else◌}
+use Rattle.gd_variant.specs.Words.{or_else, has_int}
 use Rattle.gd_variant.specs.declared.value.Variant.{Variant}
 use Rattle.gd_variant.specs.declared.message.Plain.{Plain}
 use Rattle.gd_variant.specs.declared.message.Plain.TheVariants as packet
@@ -13,7 +13,7 @@ use Rattle.scene_model.specs.declared.event.SpawnOp.{SpawnOp}
 use Rattle.scene_model.specs.declared.event.Event.{Event}
 use Rattle.scene_model.specs.declared.event.Event.TheVariants.{Op, Up, Down, Received}
 use Rattle.scene_model.specs.declared.event.Op.{Op as Operation}
-use Rattle.scene_model.specs.declared.event.Op.TheVariants.{Spawn, Set}
+use Rattle.scene_model.specs.declared.event.Op.TheVariants.{Spawn, Custom, Despawn, Set, Public, For, Filter}
 use Rattle.scene_model.specs.declared.event.Class.TheVariants.{Reliable}
 use Rattle.scene_model.specs.declared.outcome.Outcome.{Outcome}
 use Rattle.scene_model.specs.declared.outcome.Outcome.TheVariants.{Done, Refused, Fault}
@@ -24,14 +24,15 @@ use Rattle.scene_model.specs.declared.outcome.Fault.{Fault as FaultOf}
 use Rattle.scene_model.specs.declared.outcome.Fault.TheVariants as fault
 use Rattle.scene_model.specs.Lookup.{fixed_path_id}
 use Rattle.peer_model.specs.Rows.{syncs_at}
-use Rattle.peer_model.specs.Updates.{Live, all_spawn_props}
+use Rattle.peer_model.specs.Updates.{Live, live_at, all_spawn_props}
 use Rattle.peer_model.specs.Bytes.{PacketForm}
 use Rattle.headless_tree.specs.Nodes.{TreeOf, without_rows}
-use Rattle.peer_laws.specs.Shown.{is_open, values_in}
+use Rattle.peer_laws.specs.Shown.{values_in}
+use Rattle.sight_laws.specs.Sights.{Sights, with_public, with_setting, with_filter, is_set_full, is_filter_full}
 use Rattle.peer_steps.specs.declared.rows.SpawnedRow.{SpawnedRow}
 use Rattle.peer_steps.specs.Sites.{own_made}
 use Rattle.peer_steps.specs.Peers.{Peers, peer_comes, peer_goes}
-use Rattle.peer_steps.specs.Track.{Spawned, own_spawn, shown_spawn}
+use Rattle.peer_steps.specs.Track.{Track, Spawned, Despawned, Sighted, SightChange, own_spawn, own_despawn, own_sighted, shown_spawn, hidden_row, seen_by, shown_of, track_up, track_down, row_with, number_at, is_row}
 use Rattle.peer_steps.specs.Kept.{Kept, kept_tree}
 use Rattle.peer_steps.specs.Judged.{lacks_server, set_judged, set_nodes, link_judged}
 
@@ -50,28 +51,29 @@ done_with packets = Done (record { packets = packets; runs = []; raws = []; skip
 
 -- the packet that shows a row, with the values that stand in these nodes
 abbrev pub row_packet : Scene → List Live → SpawnedRow → Plain
-row_packet s nodes r = packet.Spawn r.byte (or_else (fixed_path_id s r.spawner) 0) r.num r.ids r.name None (values_in nodes r.path (all_spawn_props (syncs_at s (Some r.place))))
+row_packet s nodes r = packet.Spawn r.byte (or_else (fixed_path_id s r.spawner) 0) r.num r.ids r.name r.arg (values_in nodes r.path (all_spawn_props (syncs_at s (Some r.place))))
 
 -- a packet to a peer on its own link
 abbrev pub sent_to : PacketForm → ℤ → Plain → Out
 sent_to form b p = record { link = b; to = b; class = Reliable; tick = None; bytes = form.written_packet (plain_packet p) }
 
--- the rows that are shown to others
-abbrev pub open_rows : Scene → List SpawnedRow → List SpawnedRow
-open_rows s rows = filter (λ (r : SpawnedRow). is_open s r.place) rows
-
--- the packets that show all rows to a new peer
+-- the packets that show to a new peer all rows that it may see
 abbrev pub shows_to : PacketForm → Kept → ℤ → List Out
-shows_to form k b = map (λ r. sent_to form b (row_packet k.who.scene k.nodes r)) (open_rows k.who.scene k.track.rows)
+shows_to form k b = map (λ r. sent_to form b (row_packet k.who.scene k.nodes r)) (seen_by b k.track.rows k.track.sights.rows)
 
 -- what is answered to a link that comes up
 abbrev pub up_answer : PacketForm → Kept → ℤ → Option Refusal → Outcome
 up_answer form k b (Some r) = Refused r
 up_answer form k b None = done_with (shows_to form k b)
 
+-- the own rows after a link came up, unless it is refused
+abbrev pub track_came : Option Refusal → ℤ → Track → Track
+track_came (Some r) b t = t
+track_came None b t = track_up b t
+
 -- a link that comes up, by what becomes of the peers
 abbrev pub up_taken : PacketForm → Kept → ℤ → Option Refusal × Peers → Taken
-up_taken form k b ps = record { outcome = up_answer form k b ps.0; kept = record k { peers = ps.1 } }
+up_taken form k b ps = record { outcome = up_answer form k b ps.0; kept = record k { peers = ps.1; track = track_came ps.0 b k.track } }
 
 -- what is answered to a link that goes down, by whether it was up
 abbrev pub down_answer : Bool → Outcome
@@ -79,15 +81,15 @@ down_answer was_up = if was_up then done_with [] else Refused NoPeer
 
 -- a link that goes down, by what becomes of the peers: the rows of its peer are gone
 abbrev pub down_taken : Kept → ℤ → Bool × Peers → Taken
-down_taken k b ps = record { outcome = down_answer ps.0; kept = record k { peers = ps.1; nodes = if ps.0 then without_rows b k.nodes else k.nodes } }
+down_taken k b ps = record { outcome = down_answer ps.0; kept = record k { peers = ps.1; nodes = if ps.0 then without_rows b k.nodes else k.nodes; track = if ps.0 then track_down b k.track else k.track } }
 
 -- what is kept after a spawn
 abbrev pub with_spawned : Kept → Spawned → Kept
 with_spawned k s = record k { nodes = s.tree.nodes; track = s.track }
 
--- a row's packet for each peer that is up, where the row is shown
+-- a row's packet for each peer to which the row is shown
 abbrev pub shows_of : PacketForm → Kept → SpawnedRow → List Out
-shows_of form k r = if is_open k.who.scene r.place then map (λ b. sent_to form b (row_packet k.who.scene k.nodes r)) k.peers.up else []
+shows_of form k r = map (λ b. sent_to form b (row_packet k.who.scene k.nodes r)) (shown_of r.num k.track.sights)
 
 -- what is answered to a spawn that makes this row
 abbrev pub spawn_answer : PacketForm → Kept → SpawnedRow → Option Refusal → Outcome
@@ -102,6 +104,11 @@ row_made k o = own_made k.who.id k.who.scene k.track.next o
 abbrev pub spawn_taken : PacketForm → Kept → SpawnOp → Spawned → Taken
 spawn_taken form k o s = record { outcome = spawn_answer form (with_spawned k s) (row_made k o) s.refused; kept = with_spawned k s }
 
+-- a refusal, or packets
+abbrev pub answer_by : Option Refusal → List Out → Outcome
+answer_by (Some r) packets = Refused r
+answer_by None packets = done_with packets
+
 -- what is answered to an assignment
 abbrev pub set_answer : Option Refusal → Outcome
 set_answer (Some r) = Refused r
@@ -111,35 +118,91 @@ set_answer None = done_with []
 abbrev pub set_taken : Kept → List ℕ → List ℕ → Variant → Option Refusal → Taken
 set_taken k path prop value r = record { outcome = set_answer r; kept = record k { nodes = set_nodes r path prop value k.nodes } }
 
+-- what is answered to a despawn: the row goes at each peer to which it is shown
+abbrev pub despawn_answer : PacketForm → Despawned → Outcome
+despawn_answer form d = answer_by d.refused (map (λ b. sent_to form b (packet.Despawn d.num)) d.shown)
+
+-- a despawn, by what becomes of the own rows and the nodes
+abbrev pub despawn_taken : PacketForm → Kept → Despawned → Taken
+despawn_taken form k d = record { outcome = despawn_answer form d; kept = record k { nodes = d.tree.nodes; track = d.track } }
+
+-- public or not
+abbrev pub public_change : Bool → SightChange
+public_change on = record { change = with_public on; is_full = λ y. false }
+
+-- set for a peer
+abbrev pub for_change : ℤ → Bool → SightChange
+for_change b on = record { change = with_setting b on; is_full = is_set_full b }
+
+-- one filter more
+abbrev pub filter_change : List ℤ → SightChange
+filter_change peers = record { change = with_filter peers; is_full = is_filter_full }
+
+-- what a peer is told of a row that it saw before or not, and sees then or not
+abbrev pub shift_to : PacketForm → Plain → ℕ → ℤ → Bool → Bool → List Out
+shift_to form shows num b true false = sent_to form b (packet.Despawn num) ∷ []
+shift_to form shows num b false true = sent_to form b shows ∷ []
+shift_to form shows num b true true = []
+shift_to form shows num b false false = []
+
+-- what the peers that are up are told of a row, by those to which it was shown before and is shown then
+abbrev pub shifts : PacketForm → Plain → ℕ → List ℤ → List ℤ → List ℤ → List Out
+shifts form shows num before after up = flat_map (λ b. shift_to form shows num b (has_int b before) (has_int b after)) up
+
+-- what is told of an own row, by who sees the own rows then
+abbrev pub row_shifts : PacketForm → Kept → Sights → Option SpawnedRow → List Out
+row_shifts form k v None = []
+row_shifts form k v (Some r) = shifts form (row_packet k.who.scene k.nodes r) r.num (shown_of r.num k.track.sights) (shown_of r.num v) k.peers.up
+
+-- what is told after a setting at the node at a path: of a row alone
+abbrev pub sight_shifts : PacketForm → Kept → List ℕ → Sights → List Out
+sight_shifts form k path v = if is_row (live_at k.nodes path) then row_shifts form k v (row_with (number_at k.nodes path) k.track.rows) else []
+
+-- a setting of visibility, by what becomes of who sees the own rows
+abbrev pub sight_taken : PacketForm → Kept → List ℕ → Sighted → Taken
+sight_taken form k path s = record { outcome = answer_by s.refused (sight_shifts form k path s.track.sights); kept = record k { track = s.track } }
+
 -- an operation; the others aren't built
 abbrev pub op_taken : PacketForm → Kept → Operation → Taken
-op_taken form k (Spawn o) = spawn_taken form k o (own_spawn k.who.id o k.track (kept_tree k))
+op_taken form k (Spawn o) = spawn_taken form k o (own_spawn k.who.id k.peers.up o k.track (kept_tree k))
+op_taken form k (Custom o) = spawn_taken form k o (own_spawn k.who.id k.peers.up o k.track (kept_tree k))
+op_taken form k (Despawn path) = despawn_taken form k (own_despawn k.who.id path k.track (kept_tree k))
+op_taken form k (Public path n on) = sight_taken form k path (own_sighted k.who.id k.peers.up path n (public_change on) k.track (kept_tree k))
+op_taken form k (For path n peer on) = sight_taken form k path (own_sighted k.who.id k.peers.up path n (for_change peer on) k.track (kept_tree k))
+op_taken form k (Filter path n peers) = sight_taken form k path (own_sighted k.who.id k.peers.up path n (filter_change peers) k.track (kept_tree k))
 op_taken form k (Set path prop value) = set_taken k path prop value (set_judged k.who k.nodes path prop value)
 op_taken form k op = unchanged k (Refused NotBuilt)
 
--- what is answered to a received spawn
+-- what is answered to a received spawn or despawn
 abbrev pub shown_answer : Option FaultOf → Outcome
 shown_answer (Some f) = Fault f
 shown_answer None = done_with []
 
--- a received spawn, by what becomes of the nodes
+-- a received spawn or despawn, by what becomes of the nodes
 abbrev pub shown_taken : Kept → Option FaultOf × TreeOf → Taken
 shown_taken k t = record { outcome = shown_answer t.0; kept = record k { nodes = t.1.nodes } }
 
--- the spawn that a message is
-abbrev pub spawn_read : Message → Option SpawnMsg
-spawn_read (plain_packet (packet.Spawn scene spawner net syncs name arg values)) = Some (record { scene = scene; spawner = spawner; net = net; syncs = syncs; name = name; arg = arg; values = values })
-spawn_read m = None
+-- what a message says of a row
+pub data RowNews : Type 0 where
+  appears : SpawnMsg → RowNews
+  disappears : ℕ → RowNews
+
+-- the news of a row that a message is
+abbrev pub row_read : Message → Option RowNews
+row_read (plain_packet (packet.Spawn scene spawner net syncs name arg values)) = Some (appears (record { scene = scene; spawner = spawner; net = net; syncs = syncs; name = name; arg = arg; values = values }))
+row_read (plain_packet (packet.Despawn net)) = Some (disappears net)
+row_read m = None
 
 -- a message from a link that is up
-abbrev pub message_taken : Kept → ℤ → Option SpawnMsg → Taken
+abbrev pub message_taken : Kept → ℤ → Option RowNews → Taken
 message_taken k from None = unchanged k (Fault fault.NotBuilt)
-message_taken k from (Some m) = shown_taken k (shown_spawn from m (kept_tree k))
+message_taken k from (Some (appears m)) = shown_taken k (shown_spawn from m (kept_tree k))
+message_taken k from (Some (disappears net)) = shown_taken k (hidden_row from net (kept_tree k))
 
 -- a message, by whether its link is up
 abbrev pub linked_taken : Kept → ℤ → Message → Option FaultOf → Taken
 linked_taken k from m (Some f) = unchanged k (Fault f)
-linked_taken k from m None = message_taken k from (spawn_read m)
+linked_taken k from m None = message_taken k from (row_read m)
 
 -- a received packet, by what it reads as
 abbrev pub read_taken : Kept → ℤ → Result Message Bad → Taken

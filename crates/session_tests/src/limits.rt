@@ -47,6 +47,8 @@ impl LineTaker for Blank {
 
     ghost reasons = { λ why. why ≡ Hex };
 
+    ghost fills = { ⊥ };
+
     ghost took = { λ s ls. Unit {0} };
 
     ghost known = { λ ls. Unit {0} };

@@ -9,14 +9,11 @@ use Rattle.gd_variant.specs.Sound.{is_text}
 use Rattle.gd_variant.specs.declared.message.Message.{Message}
 use Rattle.gd_variant.specs.declared.message.Bad.{Bad}
 use Rattle.scene_model.specs.declared.scene.Scene.{Scene}
-use Rattle.scene_model.specs.declared.spawn.SpawnMsg.{SpawnMsg}
 use Rattle.scene_model.specs.declared.event.Class.{Class}
 use Rattle.scene_model.specs.declared.event.Event.{Event}
 use Rattle.scene_model.specs.declared.event.Event.TheVariants as event
 use Rattle.scene_model.specs.declared.event.Op.{Op as Operation}
 use Rattle.scene_model.specs.declared.event.Op.TheVariants.{Spawn, Custom, Despawn, Set, Public, For, Filter, Call, Raw, Frame}
-use Rattle.scene_model.specs.declared.outcome.Outcome.{Outcome}
-use Rattle.scene_model.specs.declared.outcome.Outcome.TheVariants as outcome
 use Rattle.scene_model.specs.declared.outcome.Out.{Out}
 use Rattle.scene_model.specs.declared.outcome.Fault.{Fault as FaultOf}
 use Rattle.scene_model.specs.declared.report.Report.{Report}
@@ -28,21 +25,21 @@ use Rattle.scene_model.specs.declared.world.WorldNo.TheVariants as refusal
 use Rattle.scene_model.specs.Valid.{IsValidScene}
 use Rattle.peer_model.specs.Heard.{Who, server}
 use Rattle.peer_laws.proofs.Numbers.{int_is}
-use Rattle.peer_steps.specs.Kept.{Kept}
-use Rattle.peer_steps.specs.Spawns.{shown_judged}
+use Rattle.peer_steps.specs.Arguments.{is_sound_argument}
+use Rattle.peer_steps.specs.Kept.{Kept, kept_tree}
+use Rattle.peer_steps.specs.Track.{shown_spawn, hidden_row}
 use Rattle.peer_steps.specs.Judged.{link_judged}
-use Rattle.peer_steps.specs.Steps.{taken, shown_answer, message_taken, linked_taken, read_taken, spawn_read, is_done}
+use Rattle.peer_steps.specs.Steps.{taken, shown_answer, RowNews, appears, disappears, message_taken, linked_taken, read_taken, row_read}
 use Rattle.peer_core.specs.Forms.{packet_form}
 use Rattle.peer_steps.proofs.Whole.{kept_still}
-use Rattle.peer_steps.proofs.Clauses.{same_who}
-use Rattle.peer_steps.proofs.Clauses.{start_stands as new_peer_stands}
+use Rattle.peer_steps.proofs.Clauses.{same_who, start_stands as new_peer_stands}
 use Rattle.world_model.specs.World.{World, is_in}
-use Rattle.world_model.specs.Happens.{world, packets_in}
-use Rattle.world_model.specs.Answers.{has_no_link, peer_answer, world_answer, happened}
+use Rattle.world_model.specs.Happens.{world}
+use Rattle.world_model.specs.Answers.{has_no_link, peer_answer, world_answer, happened, overflows}
 use Rattle.world_model.specs.Replicas.{reported}
 use Rattle.channel_laws.proofs.Links.{channels}
 use Rattle.world_steps.specs.Sound.{has_sound, has_sound_values, has_text_name, is_built_event, is_sound_event}
-use Rattle.world_steps.specs.Steps.{Parts, Made, Client, scene_of, first_parts, number_after, place_of, client_at, has_peer, waiting_with, with_packets, with_client as set_client, unchanged, is_full, connect_as, connect_made, server_made, client_made, client_does, does_at, op_made, deliver_down, deliver_up, delivers_of, delivers_at, rel_made, made, kept_at, kept_report, is_spent}
+use Rattle.world_steps.specs.Steps.{Parts, Made, Client, scene_of, first_parts, number_after, place_of, client_at, has_peer, put_with, waiting_with, with_packets, left_after, with_client as set_client, is_over, unchanged, is_full, connect_as, connect_made, server_made, down_with, down_made, client_made, client_does, does_at, op_made, deliver_down, deliver_up, delivers_of, delivers_at, rel_made, made, kept_at, kept_report, is_spent}
 use Rattle.world_steps.specs.Scripts.{Happened}
 use Rattle.world_steps.specs.Stands.{IsPeer, HasParts, StandsForScript, StepsAreRight}
 use Rattle.world_steps.proofs.Lists.{set_same}
@@ -50,15 +47,11 @@ use Rattle.world_steps.proofs.Happenings.{runs}
 use Rattle.world_steps.proofs.Places.{client_there}
 use Rattle.world_steps.proofs.Places as places
 use Rattle.world_steps.proofs.Reports.{kept_same}
-use Rattle.world_steps.proofs.Steps.{RightAt, Before, step_right}
+use Rattle.world_steps.proofs.Flights.{put_nothing}
+use Rattle.world_steps.proofs.Answered.{RightAt, Before, not_happened}
+use Rattle.world_steps.proofs.Steps.{step_right}
 
 -- an event that doesn't happen
-
--- a peer whose answer isn't done sends nothing
-not_happened : (p : ℤ) (o : Outcome) → happened (peer_answer p o) ≡ false → (is_done o ≡ false) × (packets_in o ≡ [])
-not_happened p (outcome.Done effects) h = absurd (true≢false h)
-not_happened p (outcome.Refused r) h = (refl, refl)
-not_happened p (outcome.Fault f) h = absurd (true≢false h)
 
 no_packets : (xs : List Out) (b : ℤ) → waiting_with xs [] b ≡ xs
 no_packets xs b = append-nil xs
@@ -71,15 +64,31 @@ server_still : (v : Parts) (e : Event) → happened (server_made v e).outcome �
 server_still v e h =
     let t = taken packet_form v.server e in
     let no = not_happened server t.outcome h in
-    ap₂ (λ k ps. record v { server = k; clients = with_packets ps v.clients }) (kept_still packet_form v.server e no.0) no.1
-    ∙ ap (λ cs. record v { clients = cs }) (nothing_put v.clients)
+    ap₂ (λ k ps. record v { server = k; put = put_with v.put ps; clients = with_packets ps v.clients }) (kept_still packet_form v.server e no.0) no.1
+    ∙ ap₂ (λ n cs. record v { put = n; clients = cs }) (put_nothing v.put) (nothing_put v.clients)
+
+-- a down that the server doesn't take leaves all clients
+down_with_still : (v : Parts) (p : ℤ) → happened (down_with v p (taken packet_form v.server (event.Down p))).outcome ≡ false → (down_with v p (taken packet_form v.server (event.Down p))).parts ≡ v
+down_with_still v p h =
+    ap (λ b. (server_made (record v { clients = left_after b p v.clients }) (event.Down p)).parts) (not_happened server (taken packet_form v.server (event.Down p)).outcome h).0
+    ∙ server_still v (event.Down p) h
+
+down_still : (v : Parts) (p : ℤ) → happened (down_made v p).outcome ≡ false → (down_made v p).parts ≡ v
+down_still v p = by_rows (int_eq p server) (is_some (place_of p v.clients))
+  where
+    by_rows : (x y : Bool)
+        → happened (if x then unchanged v (answers.Refused refusal.Server) else if y then down_with v p (taken packet_form v.server (event.Down p)) else unchanged v (answers.Refused refusal.NoPeer)).outcome ≡ false
+        → (if x then unchanged v (answers.Refused refusal.Server) else if y then down_with v p (taken packet_form v.server (event.Down p)) else unchanged v (answers.Refused refusal.NoPeer)).parts ≡ v
+    by_rows true y h = refl
+    by_rows false true h = down_with_still v p h
+    by_rows false false h = refl
 
 client_still : (v : Parts) (i : ℕ) (c : Client) (e : Event) → slice_get v.clients i ≡ Some c → happened (client_made v i c e).outcome ≡ false → (client_made v i c e).parts ≡ v
 client_still v i c e at h =
     let t = taken packet_form c.kept e in
     let no = not_happened c.number t.outcome h in
-    ap₂ (λ k ps. set_client v i (record c { kept = k; up = waiting_with c.up ps server })) (kept_still packet_form c.kept e no.0) no.1
-    ∙ ap (λ y. set_client v i (record c { up = y })) (no_packets c.up server)
+    ap₂ (λ k ps. set_client (record v { put = put_with v.put ps }) i (record c { kept = k; up = waiting_with c.up ps server })) (kept_still packet_form c.kept e no.0) no.1
+    ∙ ap₂ (λ n y. set_client (record v { put = n }) i (record c { up = y })) (put_nothing v.put) (no_packets c.up server)
     ∙ ap (λ cs. record v { clients = cs }) (set_same v.clients i c at)
 
 does_still : (v : Parts) (op : Operation) (o : Option ℕ) → happened (does_at v op o).outcome ≡ false → (does_at v op o).parts ≡ v
@@ -113,13 +122,14 @@ shown_happens : (p : ℤ) (o : Option FaultOf) → happened (peer_answer p (show
 shown_happens p (Some f) = refl
 shown_happens p None = refl
 
-message_happens : (k : Kept) (from p : ℤ) (s : Option SpawnMsg) → happened (peer_answer p (message_taken k from s).outcome) ≡ true
+message_happens : (k : Kept) (from p : ℤ) (n : Option RowNews) → happened (peer_answer p (message_taken k from n).outcome) ≡ true
 message_happens k from p None = refl
-message_happens k from p (Some s) = shown_happens p (shown_judged k.who.scene k.nodes from s)
+message_happens k from p (Some (appears m)) = shown_happens p (shown_spawn from m (kept_tree k)).0
+message_happens k from p (Some (disappears net)) = shown_happens p (hidden_row from net (kept_tree k)).0
 
 linked_happens : (k : Kept) (from p : ℤ) (m : Message) (o : Option FaultOf) → happened (peer_answer p (linked_taken k from m o).outcome) ≡ true
 linked_happens k from p m (Some f) = refl
-linked_happens k from p m None = message_happens k from p (spawn_read m)
+linked_happens k from p m None = message_happens k from p (row_read m)
 
 read_happens : (k : Kept) (from p : ℤ) (r : Result Message Bad) → happened (peer_answer p (read_taken k from r).outcome) ≡ true
 read_happens k from p (Err bad) = refl
@@ -128,13 +138,13 @@ read_happens k from p (Ok m) = linked_happens k from p m (link_judged k.peers fr
 received_happens : (k : Kept) (from p : ℤ) (class : Class) (bytes : List ℕ) → happened (peer_answer p (taken packet_form k (event.Received from class bytes)).outcome) ≡ true
 received_happens k from p class bytes = read_happens k from p (packet_form.read_packet bytes)
 
-down_still : (v : Parts) (i : ℕ) (c : Client) (xs : List Out) → happened (deliver_down v i c xs).outcome ≡ false → (deliver_down v i c xs).parts ≡ v
-down_still v i c [] h = refl
-down_still v i c (x ∷ xs) h = absurd (true≢false (sym (received_happens c.kept server c.number x.class x.bytes) ∙ h))
+next_down_still : (v : Parts) (i : ℕ) (c : Client) (xs : List Out) → happened (deliver_down v i c xs).outcome ≡ false → (deliver_down v i c xs).parts ≡ v
+next_down_still v i c [] h = refl
+next_down_still v i c (x ∷ xs) h = absurd (true≢false (sym (received_happens c.kept server c.number x.class x.bytes) ∙ h))
 
-up_still : (v : Parts) (i : ℕ) (c : Client) (xs : List Out) → happened (deliver_up v i c xs).outcome ≡ false → (deliver_up v i c xs).parts ≡ v
-up_still v i c [] h = refl
-up_still v i c (x ∷ xs) h = absurd (true≢false (sym (received_happens v.server c.number server x.class x.bytes) ∙ h))
+next_up_still : (v : Parts) (i : ℕ) (c : Client) (xs : List Out) → happened (deliver_up v i c xs).outcome ≡ false → (deliver_up v i c xs).parts ≡ v
+next_up_still v i c [] h = refl
+next_up_still v i c (x ∷ xs) h = absurd (true≢false (sym (received_happens v.server c.number server x.class x.bytes) ∙ h))
 
 delivers_still : (v : Parts) (is_down : Bool) (o : Option ℕ) → happened (delivers_at v is_down o).outcome ≡ false → (delivers_at v is_down o).parts ≡ v
 delivers_still v is_down None h = refl
@@ -142,8 +152,8 @@ delivers_still v is_down (Some i) h = by_client is_down (slice_get v.clients i) 
   where
     by_client : (d : Bool) (o : Option Client) → happened (delivers_of v d i o).outcome ≡ false → (delivers_of v d i o).parts ≡ v
     by_client d None k = refl
-    by_client true (Some c) k = down_still v i c c.down k
-    by_client false (Some c) k = up_still v i c c.up k
+    by_client true (Some c) k = next_down_still v i c c.down k
+    by_client false (Some c) k = next_up_still v i c c.up k
 
 rel_still : (v : Parts) (a b : ℤ) → happened (rel_made v a b).outcome ≡ false → (rel_made v a b).parts ≡ v
 rel_still v a b = by_rows (not (has_peer v a && has_peer v b)) (has_no_link a b) (int_eq a server)
@@ -158,6 +168,7 @@ rel_still v a b = by_rows (not (has_peer v a && has_peer v b)) (has_no_link a b)
 
 made_still : (v : Parts) (e : WorldEvent) → happened (made v e).outcome ≡ false → (made v e).parts ≡ v
 made_still v Connect h = connect_still v h
+made_still v (Down p) h = down_still v p h
 made_still v (Op p op) h = op_still v p op h
 made_still v (Rel a b) h = rel_still v a b h
 made_still v e h = refl
@@ -189,13 +200,13 @@ op_scene v p op = by_server (int_eq p server)
     by_server true = server_scene v (event.Op op)
     by_server false = does_scene v op (place_of p v.clients)
 
-down_scene : (v : Parts) (i : ℕ) (c : Client) (xs : List Out) → scene_of (deliver_down v i c xs).parts ≡ scene_of v
-down_scene v i c [] = refl
-down_scene v i c (x ∷ xs) = refl
+next_down_scene : (v : Parts) (i : ℕ) (c : Client) (xs : List Out) → scene_of (deliver_down v i c xs).parts ≡ scene_of v
+next_down_scene v i c [] = refl
+next_down_scene v i c (x ∷ xs) = refl
 
-up_scene : (v : Parts) (i : ℕ) (c : Client) (xs : List Out) → scene_of (deliver_up v i c xs).parts ≡ scene_of v
-up_scene v i c [] = refl
-up_scene v i c (x ∷ xs) = ap (λ (w : Who). w.scene) (same_who packet_form v.server (event.Received c.number x.class x.bytes))
+next_up_scene : (v : Parts) (i : ℕ) (c : Client) (xs : List Out) → scene_of (deliver_up v i c xs).parts ≡ scene_of v
+next_up_scene v i c [] = refl
+next_up_scene v i c (x ∷ xs) = ap (λ (w : Who). w.scene) (same_who packet_form v.server (event.Received c.number x.class x.bytes))
 
 delivers_scene : (v : Parts) (is_down : Bool) (o : Option ℕ) → scene_of (delivers_at v is_down o).parts ≡ scene_of v
 delivers_scene v is_down None = refl
@@ -203,8 +214,8 @@ delivers_scene v is_down (Some i) = by_client is_down (slice_get v.clients i)
   where
     by_client : (d : Bool) (o : Option Client) → scene_of (delivers_of v d i o).parts ≡ scene_of v
     by_client d None = refl
-    by_client true (Some c) = down_scene v i c c.down
-    by_client false (Some c) = up_scene v i c c.up
+    by_client true (Some c) = next_down_scene v i c c.down
+    by_client false (Some c) = next_up_scene v i c c.up
 
 rel_scene : (v : Parts) (a b : ℤ) → scene_of (rel_made v a b).parts ≡ scene_of v
 rel_scene v a b = by_rows (not (has_peer v a && has_peer v b)) (has_no_link a b) (int_eq a server)
@@ -216,8 +227,17 @@ rel_scene v a b = by_rows (not (has_peer v a && has_peer v b)) (has_no_link a b)
     by_rows false false true = delivers_scene v true (place_of b v.clients)
     by_rows false false false = delivers_scene v false (place_of a v.clients)
 
+down_scene : (v : Parts) (p : ℤ) → scene_of (down_made v p).parts ≡ scene_of v
+down_scene v p = by_rows (int_eq p server) (is_some (place_of p v.clients))
+  where
+    by_rows : (x y : Bool) → scene_of (if x then unchanged v (answers.Refused refusal.Server) else if y then down_with v p (taken packet_form v.server (event.Down p)) else unchanged v (answers.Refused refusal.NoPeer)).parts ≡ scene_of v
+    by_rows true y = refl
+    by_rows false true = server_scene v (event.Down p)
+    by_rows false false = refl
+
 made_scene : (v : Parts) (e : WorldEvent) → scene_of (made v e).parts ≡ scene_of v
 made_scene v Connect = connect_scene v
+made_scene v (Down p) = down_scene v p
 made_scene v (Op p op) = op_scene v p op
 made_scene v (Rel a b) = rel_scene v a b
 made_scene v e = refl
@@ -233,6 +253,8 @@ start_stands v s is valid = subst (λ x. StandsForScript x []) (sym is) (record 
     live = refl;
     server = record { who = refl; stands = new_peer_stands packet_form s server valid };
     come = refl;
+    put = refl;
+    room = refl;
     numbers = refl;
     clients = λ i c at. absurd (cc at);
   };
@@ -253,14 +275,14 @@ step_answers v u es e o is h built = ap (λ (m : Made). m.outcome) is ∙ (step_
 pub step_scene : (v u : Parts) (e : WorldEvent) (o : WorldOutcome) → record { outcome = o; parts = u } ≡ made v e → scene_of u ≡ scene_of v
 step_scene v u e o is = ap (λ (m : Made). scene_of m.parts) is ∙ made_scene v e
 
-pub step_stands : (v u : Parts) (es : List WorldEvent) (e : WorldEvent) (o : WorldOutcome) → record { outcome = o; parts = u } ≡ made v e → StandsForScript v es → is_built_event e ≡ true → is_sound_event e ≡ true → happened o ≡ true → StandsForScript u (e ∷ es)
-step_stands v u es e o is h built sound done = stands_by (scene_of u) (step_scene v u e o is) parts
+pub step_stands : (v u : Parts) (es : List WorldEvent) (e : WorldEvent) (o : WorldOutcome) → record { outcome = o; parts = u } ≡ made v e → StandsForScript v es → is_built_event e ≡ true → is_sound_event e ≡ true → is_over (made v e) ≡ false → happened o ≡ true → StandsForScript u (e ∷ es)
+step_stands v u es e o is h built sound room done = stands_by (scene_of u) (step_scene v u e o is) parts
   where
     s : Scene
     s = scene_of v
 
     parts : HasParts s u (world packet_form s (e ∷ es))
-    parts = subst (λ (m : Made). HasParts s m.parts (world packet_form s (e ∷ es))) (sym is) ((step_at v es e h built).stands (sym (ap (λ (m : Made). happened m.outcome) is) ∙ done))
+    parts = subst (λ (m : Made). HasParts s m.parts (world packet_form s (e ∷ es))) (sym is) ((step_at v es e h built).stands (sym (ap (λ (m : Made). happened m.outcome) is) ∙ done) room)
 
     now : Happened s (e ∷ es)
     now = (built, sound, ap happened (sym (step_answers v u es e o is h built)) ∙ done, h.happened)
@@ -272,6 +294,10 @@ step_stands v u es e o is h built sound done = stands_by (scene_of u) (step_scen
       parts = subst (λ y. HasParts y u (world packet_form y (e ∷ es))) (sym (step_scene v u e o is)) p;
     }
 
+-- it is over where the definitions overflow
+pub step_over : (v : Parts) (es : List WorldEvent) (e : WorldEvent) → StandsForScript v es → is_built_event e ≡ true → is_over (made v e) ≡ overflows packet_form (scene_of v) (world packet_form (scene_of v) es) e
+step_over v es e h built = (step_at v es e h built).over
+
 pub step_unchanged : (v u : Parts) (e : WorldEvent) (o : WorldOutcome) → record { outcome = o; parts = u } ≡ made v e → happened o ≡ false → u ≡ v
 step_unchanged v u e o is no_event = ap (λ (m : Made). m.parts) is ∙ made_still v e (sym (ap (λ (m : Made). happened m.outcome) is) ∙ no_event)
 
@@ -279,7 +305,7 @@ step_unchanged v u e o is no_event = ap (λ (m : Made). m.parts) is ∙ made_sti
 
 -- a peer is there where it is in the script's world
 pub made_there : (v : Parts) (es : List WorldEvent) (p : ℤ) → StandsForScript v es → has_peer v p ≡ is_in (world packet_form (scene_of v) es) p
-made_there v es p h = let b = before v es h in places.there_is v (world packet_form (scene_of v) es) p b.run.members b.parts.numbers
+made_there v es p h = let b = before v es h in places.there_is v (world packet_form (scene_of v) es) p b.parts.numbers
 
 -- what is kept of any peer that is there stands for its history
 pub kept_stands : (v : Parts) (es : List WorldEvent) (p : ℤ) (k : Kept) → StandsForScript v es → kept_at v p ≡ Some k → IsPeer (scene_of v) (world packet_form (scene_of v) es) p k
@@ -338,7 +364,7 @@ pub sound_event : (e : WorldEvent) → has_text_name e ≡ true → has_sound_va
 sound_event Connect text h = refl
 sound_event (Down p) text h = refl
 sound_event (Op p (Spawn o)) text h = and_from (is_text o.name) (list_all has_sound o.sets) text h
-sound_event (Op p (Custom o)) text h = refl
+sound_event (Op p (Custom o)) text h = and_from (is_text o.name) (is_sound_argument o.arg) text h
 sound_event (Op p (Despawn path)) text h = refl
 sound_event (Op p (Set path prop value)) text h = h
 sound_event (Op p (Public path k on)) text h = refl
@@ -354,6 +380,7 @@ sound_event (Forge p class bytes) text h = refl
 pub steps_are_right : StepsAreRight
 steps_are_right v es e h built sound = record {
   answers = step_answers v (made v e).parts es e (made v e).outcome refl h built;
-  stands = step_stands v (made v e).parts es e (made v e).outcome refl h built sound;
+  over = step_over v es e h built;
+  stands = λ done room. step_stands v (made v e).parts es e (made v e).outcome refl h built sound room done;
   unchanged = step_unchanged v (made v e).parts e (made v e).outcome refl;
 }

@@ -5,6 +5,9 @@ pub mod Lists
 pub mod Numbers
 pub mod Readable
 pub mod Runs
+pub mod Joins
+pub mod Arrivals
+pub mod Goings
 pub mod Happenings
 pub mod Pairs
 pub mod Reports
@@ -12,5 +15,11 @@ pub mod Waiting
 pub mod Peers
 pub mod Places
 pub mod Keeping
+pub mod Flights
+pub mod Answered
+pub mod Operating
+pub mod Joining
+pub mod Leaving
+pub mod Delivering
 pub mod Steps
 pub mod Calls

@@ -1,40 +1,39 @@
 -- One way of a link, one event later at either end.
-use Rattle.std.proofs.Common.{◌≡◌, ℕ, zero, suc, ◌+◌, ◌≤◌, ℤ, Bool, true, false, cond, not, ◌&&◌, ◌||◌, List, [], ◌∷◌, ◌++◌, length, take, map, filter, refl, sym, ap, ap₂, ◌∙◌, subst, arith, Option, Some, None, Ok, length-append}
-use Rattle.std.specs.Prelude.{slice_get, filter_map, flat_map, reverse, if◌then◌else◌}
-use Rattle.std.specs.List.{cons_option}
+use Rattle.std.proofs.Common.{◌≡◌, ℕ, zero, suc, ◌+◌, ◌≤◌, ℤ, Bool, true, false, cond, not, ◌&&◌, ◌||◌, List, [], ◌∷◌, ◌++◌, length, take, map, filter, refl, sym, ap, ap₂, ◌∙◌, subst, arith, Some, None, length-append}
+use Rattle.std.specs.Prelude.{slice_get, filter_map, flat_map, if◌then◌else◌}
+use Rattle.std.specs.List.{AllByRecursion, cons_option}
 use Rattle.std.specs.Ordering.{int_eq}
-use Rattle.std.proofs.lemmas.List.{take-append-le, map-append, length-map}
+use Rattle.std.proofs.lemmas.List.{take-append-le, map-append}
 use Rattle.scene_model.specs.declared.scene.Scene.{Scene}
-use Rattle.scene_model.specs.declared.event.Event.{Event}
-use Rattle.scene_model.specs.declared.event.Op.TheVariants.{Call}
 use Rattle.scene_model.specs.declared.outcome.Out.{Out}
-use Rattle.peer_model.specs.Heard.{Who, Heard, server}
+use Rattle.gd_variant.specs.declared.message.Plain.{Plain}
+use Rattle.gd_variant.specs.declared.message.Message.TheVariants.{Plain as plain_packet, Relay}
+use Rattle.scene_model.specs.declared.event.Class.TheVariants.{Reliable}
+use Rattle.peer_model.specs.Heard.{Who, Heard, is_server, server}
 use Rattle.peer_model.specs.Peers.{is_up}
 use Rattle.peer_model.specs.Updates.{Update}
 use Rattle.peer_model.specs.Changes.{changes}
 use Rattle.peer_model.specs.View.{updates_in, updates_from}
-use Rattle.peer_model.specs.Answer.{reliable, update_packet, sends}
-use Rattle.peer_model.specs.Bytes.{PacketForm, out_of, heard_of}
-use Rattle.peer_laws.specs.Built.{Accepts, AllAccepted}
-use Rattle.peer_laws.proofs.Filters.{filter_both, filter_all}
-use Rattle.peer_laws.proofs.Told.{adds, changes_up, changes_down}
+use Rattle.peer_model.specs.Answer.{reliable, packet_sent, update_packet, sends}
+use Rattle.peer_model.specs.Bytes.{out_of, heard_of}
+use Rattle.peer_laws.specs.Built.{AllAccepted, is_row_packet}
+use Rattle.peer_laws.proofs.Each.{every_joined}
+use Rattle.peer_laws.proofs.Told.{adds}
 use Rattle.peer_laws.proofs.Ways.{sent_by_link, none_by_link}
 use Rattle.peer_steps.specs.Steps.{sent_to, IsReadablePlain}
 use Rattle.peer_core.specs.Forms.{packet_form}
-use Rattle.peer_steps.proofs.Packets.{parcel_is}
-use Rattle.peer_steps.proofs.Packets as packets
-use Rattle.world_model.specs.World.{Tag, Parcel, Way, Came, peer_of, is_reliable}
-use Rattle.world_model.specs.Happens.{path_called, own_tag, parcel_of, on_link, way_with, by_itself, after_next}
+use Rattle.world_model.specs.World.{Parcel, Way, Came, peer_of, is_reliable}
+use Rattle.world_model.specs.Happens.{tag_of, parcel_of, on_link, way_with}
 use Rattle.world_model.specs.Replicas.{packet_of}
 
--- the packet of an update is read back
-abbrev pub IsReadable : Update → Type 0
-IsReadable u = IsReadablePlain packet_form (update_packet u)
+-- The packet of an update shows or hides a row, and is read back.
+pub record IsReadable (u : Update) : Type 0 where
+  pub back : IsReadablePlain packet_form (update_packet u)
+  pub row : is_row_packet (update_packet u) ≡ true
 
 -- all of them are
 abbrev pub AllReadable : List Update → Type 0
-AllReadable [] = Unit {0}
-AllReadable (u ∷ us) = IsReadable u × AllReadable us
+AllReadable us = AllByRecursion IsReadable us
 
 -- the parcel that tells an update over a link
 abbrev pub told_parcel : ℤ → ℤ → Update → Parcel
@@ -55,10 +54,6 @@ pub record IsLink (s : Scene) (a b : ℤ) (here there : List Heard) (came : List
   pub within : y.delivered ≤ length (changes (peer_of s a) here b)
   pub got : updates_from (peer_of s b) there a ≡ take y.delivered (changes (peer_of s a) here b)
   pub count : arrived_in s a b came ≡ y.delivered
-
-all_readable : (us vs : List Update) → AllReadable us → AllReadable vs → AllReadable (us ++ vs)
-all_readable [] vs h k = k
-all_readable (u ∷ us) vs h k = (h.0, all_readable us vs h.1 k)
 
 pub some_same : {X : Type 0} (a b : X) → Some a ≡ Some b → a ≡ b
 some_same a b h = cc
@@ -121,20 +116,27 @@ none_loose : (b : ℤ) (us : List Update) → filter (λ (x : Out). not (is_reli
 none_loose b [] = refl
 none_loose b (u ∷ us) = none_loose b us
 
--- an event that isn't a call, as no parcel brought it
-pub record IsPlainEvent (e : Event) : Type 0 where
-  pub no_path : path_called e ≡ None
+-- whether a packet to a peer goes out on a link to it
+abbrev pub is_straight : Who → ℤ → Bool
+is_straight who b = is_server who || int_eq b server
 
--- a packet on its link, as a peer posts it at such an event
-posted_is : (a b : ℤ) (e : Event) → path_called e ≡ None → (us : List Update) → map (parcel_of packet_form a (by_itself e)) (map (λ u. sent_to packet_form b (update_packet u)) us) ≡ told_parcels a b us
-posted_is a b e plain [] = refl
-posted_is a b e plain (u ∷ us) =
-    ap₂ (λ (o : Option (List ℕ)) ps. record { out = sent_to packet_form b (update_packet u); tag = record { origin = a; target = b; tick = None; path = o; forged = false } } ∷ ps) plain (posted_is a b e plain us)
+-- what a peer posts at an entry is its own: it is no call, and no relay that the server passes on
+abbrev pub OwnTags : ℤ → Came → Type 0
+OwnTags a c = (x : Out) → tag_of packet_form a c x ≡ record { origin = a; target = x.to; tick = x.tick; path = None; forged = false }
+
+-- a packet on its link, as a peer posts it at such an entry
+posted_is : (a b : ℤ) (c : Came) → OwnTags a c → (us : List Update) → map (parcel_of packet_form a c) (map (λ u. sent_to packet_form b (update_packet u)) us) ≡ told_parcels a b us
+posted_is a b c own [] = refl
+posted_is a b c own (u ∷ us) = ap₂ (λ t ps. record { out = sent_to packet_form b (update_packet u); tag = t } ∷ ps) (own (sent_to packet_form b (update_packet u))) (posted_is a b c own us)
 
 -- a packet that goes out straight
-straight : (who : Who) (b : ℤ) → packets.is_direct who b ≡ true → (us : List Update) → map (λ u. out_of packet_form (reliable who b (update_packet u))) us ≡ map (λ u. sent_to packet_form b (update_packet u)) us
+straight : (who : Who) (b : ℤ) → is_straight who b ≡ true → (us : List Update) → map (λ u. out_of packet_form (reliable who b (update_packet u))) us ≡ map (λ u. sent_to packet_form b (update_packet u)) us
 straight who b direct [] = refl
-straight who b direct (u ∷ us) = ap₂ (λ x xs. x ∷ xs) (parcel_is packet_form who b (update_packet u) direct) (straight who b direct us)
+straight who b direct (u ∷ us) = ap₂ (λ x xs. x ∷ xs) (one (update_packet u)) (straight who b direct us)
+  where
+    one : (p : Plain) → out_of packet_form (reliable who b p) ≡ sent_to packet_form b p
+    one p = ap (λ c. out_of packet_form (if c then record { link = b; to = b; class = Reliable; tick = None; sent = packet_sent (plain_packet p) }
+        else record { link = server; to = b; class = Reliable; tick = None; sent = packet_sent (Relay b p) })) direct
 
 -- what an event adds to the changes for a peer: nothing where it isn't up
 abbrev pub adds_up : Who → Heard → List Heard → ℤ → List Update
@@ -152,7 +154,7 @@ changes_more who e es b = step (is_up (e ∷ es) b)
     step false = nil_right (changes who es b)
 
 -- the packets for a peer's link
-by_link : (who : Who) (e : Heard) (es : List Heard) (b : ℤ) → AllAccepted who (e ∷ es) → packets.is_direct who b ≡ true
+by_link : (who : Who) (e : Heard) (es : List Heard) (b : ℤ) → AllAccepted who (e ∷ es) → is_straight who b ≡ true
     → filter (λ (x : Out). int_eq x.link b) (map (out_of packet_form) (sends who e es)) ≡ map (λ u. sent_to packet_form b (update_packet u)) (adds_up who e es b)
 by_link who e es b all direct = step (is_up (e ∷ es) b) refl
   where
@@ -161,27 +163,27 @@ by_link who e es b all direct = step (is_up (e ∷ es) b) refl
     step false down = none_by_link packet_form who e es all b down
 
 -- the parcels that an event of a peer puts on a link
-pub link_posts : (s : Scene) (a b : ℤ) (e : Event) (es : List Heard) (xs : List Out) → AllAccepted (peer_of s a) (heard_of packet_form e ∷ es) → packets.is_direct (peer_of s a) b ≡ true → path_called e ≡ None
-    → xs ≡ map (out_of packet_form) (sends (peer_of s a) (heard_of packet_form e) es)
-    → on_link b true (map (parcel_of packet_form a (by_itself e)) xs) ≡ told_parcels a b (adds_up (peer_of s a) (heard_of packet_form e) es b)
-link_posts s a b e es xs all direct plain are =
-    let us = adds_up (peer_of s a) (heard_of packet_form e) es b in
-    on_link_mapped (parcel_of packet_form a (by_itself e)) (λ x. refl) b xs
-    ∙ ap (map (parcel_of packet_form a (by_itself e)))
+pub link_posts : (s : Scene) (a b : ℤ) (c : Came) (es : List Heard) (xs : List Out) → AllAccepted (peer_of s a) (heard_of packet_form c.event ∷ es) → is_straight (peer_of s a) b ≡ true → OwnTags a c
+    → xs ≡ map (out_of packet_form) (sends (peer_of s a) (heard_of packet_form c.event) es)
+    → on_link b true (map (parcel_of packet_form a c) xs) ≡ told_parcels a b (adds_up (peer_of s a) (heard_of packet_form c.event) es b)
+link_posts s a b c es xs all direct own are =
+    let us = adds_up (peer_of s a) (heard_of packet_form c.event) es b in
+    on_link_mapped (parcel_of packet_form a c) (λ x. refl) b xs
+    ∙ ap (map (parcel_of packet_form a c))
     (swapped (λ (x : Out). int_eq x.link b) (λ (x : Out). is_reliable x.class) xs
-    ∙ ap (filter (λ (x : Out). is_reliable x.class)) (ap (filter (λ (x : Out). int_eq x.link b)) are ∙ by_link (peer_of s a) (heard_of packet_form e) es b all direct)
+    ∙ ap (filter (λ (x : Out). is_reliable x.class)) (ap (filter (λ (x : Out). int_eq x.link b)) are ∙ by_link (peer_of s a) (heard_of packet_form c.event) es b all direct)
     ∙ all_reliable b us)
-    ∙ posted_is a b e plain us
+    ∙ posted_is a b c own us
 
-pub link_posts_no_loose : (s : Scene) (a b : ℤ) (e : Event) (es : List Heard) (xs : List Out) → AllAccepted (peer_of s a) (heard_of packet_form e ∷ es) → packets.is_direct (peer_of s a) b ≡ true
-    → xs ≡ map (out_of packet_form) (sends (peer_of s a) (heard_of packet_form e) es)
-    → on_link b false (map (parcel_of packet_form a (by_itself e)) xs) ≡ []
-link_posts_no_loose s a b e es xs all direct are =
-    let us = adds_up (peer_of s a) (heard_of packet_form e) es b in
-    off_link_mapped (parcel_of packet_form a (by_itself e)) (λ x. refl) b xs
-    ∙ ap (map (parcel_of packet_form a (by_itself e)))
+pub link_posts_no_loose : (s : Scene) (a b : ℤ) (c : Came) (es : List Heard) (xs : List Out) → AllAccepted (peer_of s a) (heard_of packet_form c.event ∷ es) → is_straight (peer_of s a) b ≡ true
+    → xs ≡ map (out_of packet_form) (sends (peer_of s a) (heard_of packet_form c.event) es)
+    → on_link b false (map (parcel_of packet_form a c) xs) ≡ []
+link_posts_no_loose s a b c es xs all direct are =
+    let us = adds_up (peer_of s a) (heard_of packet_form c.event) es b in
+    off_link_mapped (parcel_of packet_form a c) (λ x. refl) b xs
+    ∙ ap (map (parcel_of packet_form a c))
     (swapped (λ (x : Out). int_eq x.link b) (λ (x : Out). not (is_reliable x.class)) xs
-    ∙ ap (filter (λ (x : Out). not (is_reliable x.class))) (ap (filter (λ (x : Out). int_eq x.link b)) are ∙ by_link (peer_of s a) (heard_of packet_form e) es b all direct)
+    ∙ ap (filter (λ (x : Out). not (is_reliable x.class))) (ap (filter (λ (x : Out). int_eq x.link b)) are ∙ by_link (peer_of s a) (heard_of packet_form c.event) es b all direct)
     ∙ none_loose b us)
 
 -- nothing goes on the link to a peer without one
@@ -221,7 +223,7 @@ link_more s a b e here there came y ps posts read l =
     let inside = l.within in
     record {
       sent = ap₂ (λ xs zs. xs ++ zs) l.sent posts ∙ sym (map-append (told_parcel a b) us vs) ∙ ap (told_parcels a b) (sym told);
-      readable = subst AllReadable (sym told) (all_readable us vs l.readable read);
+      readable = subst AllReadable (sym told) (every_joined IsReadable us vs l.readable read);
       within = subst (λ ws. y.delivered ≤ length ws) (sym told) (omega (arith, long, inside));
       got = l.got ∙ sym (take-append-le y.delivered us vs l.within) ∙ ap (take y.delivered) (sym told);
       count = l.count;

@@ -1,5 +1,5 @@
 -- Each two peers that are joined are a pair; what the second sees of the first is the first one's replica, and all visible rows once nothing is in flight.
-use Rattle.std.proofs.Common.{◌≡◌, ℕ, zero, suc, ℤ, Bool, true, false, cond, not, ◌&&◌, ◌||◌, List, [], ◌∷◌, ◌++◌, length, take, map, filter, drop, refl, sym, ap, ap₂, ◌∙◌, subst, arith, Option, Some, None, Result, Ok, Contains}
+use Rattle.std.proofs.Common.{◌≡◌, ℕ, zero, suc, ℤ, Bool, true, false, cond, not, ◌&&◌, ◌||◌, List, [], ◌∷◌, ◌++◌, length, take, map, filter, drop, refl, sym, ap, ap₂, ◌∙◌, subst, arith, Option, Some, None, Ok, Contains}
 use Rattle.std.specs.Prelude.{filter_map, flat_map, reverse, is_none, option_map, option_and_then, if◌then◌else◌}
 use Rattle.std.specs.List.{list_all, cons_option, AllByRecursion}
 use Rattle.std.specs.Ordering.{int_eq}
@@ -9,10 +9,9 @@ use Rattle.std.proofs.lemmas.List.Elements.{filter-append}
 use Rattle.gd_variant.specs.Words.{has_int}
 use Rattle.gd_variant.specs.declared.message.Message.TheVariants.{AddPeer}
 use Rattle.gd_variant.specs.declared.message.Plain.{Plain}
-use Rattle.gd_variant.specs.declared.message.Plain.TheVariants.{Spawn as spawn_packet}
+use Rattle.gd_variant.specs.declared.message.Plain.TheVariants.{Spawn as spawn_packet, Despawn as despawn_packet}
 use Rattle.gd_variant.specs.declared.value.Variant.{Variant}
 use Rattle.scene_model.specs.declared.scene.Scene.{Scene}
-use Rattle.scene_model.specs.declared.event.Event.{Event}
 use Rattle.scene_model.specs.declared.event.Event.TheVariants as event
 use Rattle.scene_model.specs.declared.world.WorldEvent.{WorldEvent}
 use Rattle.scene_model.specs.Syncs.{Syncer}
@@ -26,13 +25,13 @@ use Rattle.peer_model.specs.Visible.{sees, visible_rows}
 use Rattle.peer_model.specs.Rows.{own_rows}
 use Rattle.peer_model.specs.View.{view, updates_in, updates_from, reach, sampled_values}
 use Rattle.peer_model.specs.Answer.{decided}
-use Rattle.peer_model.specs.Bytes.{heard_of, outcome_of}
-use Rattle.peer_laws.specs.Built.{Accepts, AllAccepted, is_spawn}
-use Rattle.peer_laws.proofs.Numbers.{int_is, int_same, int_comm}
-use Rattle.peer_laws.proofs.Tests.{never, not_false, or_true}
+use Rattle.peer_model.specs.Bytes.{outcome_of}
+use Rattle.peer_laws.specs.Built.{Accepts, AllAccepted, is_row_packet}
+use Rattle.peer_laws.proofs.Numbers.{int_is, int_comm}
+use Rattle.peer_laws.proofs.Tests.{never, or_true}
 use Rattle.peer_laws.proofs.FactsOf.{facts}
 use Rattle.peer_laws.proofs.Replica.{in_view, never_seen}
-use Rattle.peer_laws.proofs.Views.{only_spawns}
+use Rattle.peer_laws.proofs.Views.{only_rows}
 use Rattle.peer_laws.proofs.Told.{changes_never}
 use Rattle.peer_laws.proofs.Ups.{up_if_was_not, come_is_new}
 use Rattle.headless_tree.proofs.Numbered.{unnot}
@@ -41,18 +40,20 @@ use Rattle.peer_core.specs.Forms.{packet_form}
 use Rattle.world_laws.specs.Marks.{live_marks, own_marks}
 use Rattle.world_laws.proofs.Law.{built_done}
 use Rattle.world_laws.proofs.Taking.{marks_settle}
-use Rattle.world_model.specs.World.{Parcel, Way, Came, World, peer_of, is_in, is_from_to, accepted_history, accepted_at, next_of, is_reliable}
-use Rattle.world_model.specs.Happens.{answer_at, brought_by, world}
+use Rattle.world_model.specs.World.{Parcel, Came, World, peer_of, is_in, is_from_to, accepted_at, is_reliable}
+use Rattle.world_model.specs.Happens.{world}
 use Rattle.world_model.specs.Answers.{has_no_link}
-use Rattle.world_model.specs.Replicas.{Dated, is_joined, is_direct, is_delivered, is_quiet, packet_of, dated_of, packets_delivered, packets_accepted, arrived, shows_node, has_sample, true_ticks, greatest_of, sampled_at, newest_sample, with_newest, all_newest, told_replica, replica}
+use Rattle.world_model.specs.Replicas.{Dated, is_joined, is_direct, is_delivered, is_quiet, packet_of, dated_of, packets_delivered, packets_accepted, arrived, shows_node, has_sample, true_ticks, greatest_of, sampled_at, newest_sample, with_newest, told_replica, replica}
 use Rattle.channel_laws.specs.Channels.{AllHappened, delivered_at, reliable_in, waiting_on, posted}
 use Rattle.channel_laws.proofs.Arrivals.{arrivals_are_posted}
 use Rattle.channel_laws.proofs.Links.{channels, own_of, own_first}
-use Rattle.world_steps.specs.Pairs.{Content, content_of, made_for, first_hop, on_the_way, loose_between, loose_posted, Pair}
+use Rattle.world_steps.specs.Pairs.{content_of, made_for, first_hop, loose_between, loose_posted, Pair}
 use Rattle.world_steps.specs.Scripts.{Happened, PairsHold, NoneIsFault}
-use Rattle.world_steps.proofs.Links.{IsLink, told_parcel, told_parcels, arrived_in, none_taken}
-use Rattle.world_steps.proofs.Runs.{heard_at, own_if, is_own_entry, Core, Members, answer_by, heard_is, history_is}
-use Rattle.world_steps.proofs.Happenings.{Run, runs, arrival, arrives, sender_up}
+use Rattle.world_steps.proofs.Links.{IsLink, told_parcel, told_parcels, none_taken}
+use Rattle.world_steps.proofs.Runs.{heard_at, own_if, is_own_entry, Core, answer_by, heard_is, history_is}
+use Rattle.world_steps.proofs.Joins.{Run}
+use Rattle.world_steps.proofs.Happenings.{runs}
+use Rattle.world_steps.proofs.Arrivals.{arrival, arrives, sender_up}
 
 -- a script that happened, as the laws of channels see it
 pub all_happened : (s : Scene) (es : List WorldEvent) → Happened s es → AllHappened packet_form s es
@@ -180,10 +181,11 @@ no_true_ticks id (p ∷ ps) = step (shows_node id p) (has_sample id p) (no_true_
     step false true more = more
     step false false more = more
 
-spawns_have_no_ticks : (ps : List Plain) → list_all is_spawn ps ≡ true → widened ps ≡ []
-spawns_have_no_ticks [] h = refl
-spawns_have_no_ticks (spawn_packet scene spawner net syncs name arg values ∷ ps) h = spawns_have_no_ticks ps h
-spawns_have_no_ticks (p ∷ ps) h = absurd (cc (and_parts (is_spawn p) (list_all is_spawn ps) h).0)
+rows_have_no_ticks : (ps : List Plain) → list_all is_row_packet ps ≡ true → widened ps ≡ []
+rows_have_no_ticks [] h = refl
+rows_have_no_ticks (spawn_packet scene spawner net syncs name arg values ∷ ps) h = rows_have_no_ticks ps h
+rows_have_no_ticks (despawn_packet net ∷ ps) h = rows_have_no_ticks ps h
+rows_have_no_ticks (p ∷ ps) h = absurd (cc (and_parts (is_row_packet p) (list_all is_row_packet ps) h).0)
 
 -- packets that were accepted
 accepted_are : (s : Scene) (w : World) (a b : ℤ) → Core s w → packets_accepted packet_form s w a b ≡ map undated (packets_delivered packet_form s w a b)
@@ -222,7 +224,7 @@ no_cards s w a b h = step (is_direct a b)
 pair_ticks : (s : Scene) (w : World) (a b : ℤ) → Core s w → reach (peer_of s b) (accepted_at packet_form s w b) a ≡ filter_map (λ (d : Dated). d.tick) (packets_accepted packet_form s w a b)
 pair_ticks s w a b h =
     ap (λ g. reach (peer_of s b) g a) (heard_is s w h b)
-    ∙ spawns_have_no_ticks (received_from (peer_of s b) (heard_at w b) a) (only_spawns (peer_of s b) (heard_at w b) (h.accepted b) a)
+    ∙ rows_have_no_ticks (received_from (peer_of s b) (heard_at w b) a) (only_rows (peer_of s b) (heard_at w b) (h.accepted b) a)
     ∙ sym (ap (filter_map (λ (d : Dated). d.tick)) (accepted_are s w a b h) ∙ no_ticks (packets_delivered packet_form s w a b))
 
 -- over a link

@@ -1,19 +1,21 @@
 -- Clients by their numbers and their places.
-use Rattle.std.proofs.Common.{◌≡◌, ℕ, zero, suc, ◌+◌, ◌<◌, ℤ, Bool, true, false, not, ◌&&◌, ◌||◌, List, [], ◌∷◌, ◌++◌, length, map, reverse, refl, sym, ap, ap₂, ◌∙◌, subst, arith, nat_eq, is_some, Option, Some, None, length-append}
-use Rattle.std.specs.Prelude.{slice_get, option_map, if◌then◌else◌}
+use Rattle.std.proofs.Common.{◌≡◌, ℕ, zero, suc, ℤ, Bool, true, false, cond, not, ◌&&◌, ◌||◌, List, [], ◌∷◌, length, map, filter, reverse, refl, sym, ap, ◌∙◌, subst, arith, nat_eq, is_some, Option, Some, None}
+use Rattle.std.specs.Prelude.{slice_get, option_map, nat_lt, if◌then◌else◌}
+use Rattle.std.specs.List.{slice_set}
 use Rattle.std.specs.Ordering.{int_eq}
-use Rattle.gd_variant.specs.Words.{has_int}
-use Rattle.peer_model.specs.Heard.{server}
-use Rattle.std.proofs.lemmas.Grind.{reverse_onto}
+use Rattle.std.proofs.lemmas.Bool.{and_parts, or_parts}
+use Rattle.std.proofs.lemmas.Bool.Decides.{nat_tests}
 use Rattle.std.proofs.lemmas.List.{length-map}
+use Rattle.gd_variant.specs.Words.{has_int}
+use Rattle.scene_model.specs.declared.outcome.Out.{Out}
+use Rattle.peer_model.specs.Heard.{server}
 use Rattle.peer_laws.proofs.Numbers.{int_is, int_comm}
-use Rattle.world_model.specs.World.{World, is_in, is_client, clients}
-use Rattle.world_steps.specs.Steps.{Parts, Client, place_of, has_peer}
+use Rattle.headless_tree.proofs.Numbered.{unnot}
+use Rattle.world_model.specs.World.{World, is_in, clients, next_client}
+use Rattle.world_steps.specs.Steps.{Parts, Client, place_of, has_peer, with_packets}
 use Rattle.world_steps.proofs.Links.{some_same}
-use Rattle.world_steps.proofs.Lists.{each_more, EachAt}
-use Rattle.world_steps.proofs.Numbers.{number_of, numbers_to, length-numbers}
+use Rattle.world_steps.proofs.Numbers.{has_left, has_number_to, has_reversed, is_once, length-reversed, numbers_once, once_kept, once_reversed, server_outside}
 use Rattle.world_steps.proofs.Runs.{Members}
-use Rattle.world_steps.proofs.Happenings.{clients_are}
 
 abbrev pub number_in : Client → ℤ
 number_in c = c.number
@@ -51,60 +53,64 @@ has_place (c ∷ cs) p = ap (λ t. is_some (if t then Some 0 else option_map suc
     step true more = refl
     step false more = mapped (place_of p cs) ∙ more
 
-has_joined : (p : ℤ) (xs ys : List ℤ) → has_int p (xs ++ ys) ≡ (has_int p xs || has_int p ys)
-has_joined p [] ys = refl
-has_joined p (x ∷ xs) ys = ap (λ t. int_eq p x || t) (has_joined p xs ys) ∙ step (int_eq p x)
-  where
-    step : (t : Bool) → (t || (has_int p xs || has_int p ys)) ≡ ((t || has_int p xs) || has_int p ys)
-    step true = refl
-    step false = refl
-
-pub reversed : (x : ℤ) (xs : List ℤ) → reverse (x ∷ xs) ≡ reverse xs ++ x ∷ []
-reversed x xs = reverse_onto xs x []
-
-has_reversed : (p : ℤ) (xs : List ℤ) → has_int p (reverse xs) ≡ has_int p xs
-has_reversed p [] = refl
-has_reversed p (x ∷ xs) = ap (has_int p) (reversed x xs) ∙ has_joined p (reverse xs) (x ∷ []) ∙ ap (λ t. t || (int_eq p x || false)) (has_reversed p xs) ∙ step (has_int p xs) (int_eq p x)
-  where
-    step : (t u : Bool) → (t || (u || false)) ≡ (u || t)
-    step true true = refl
-    step true false = refl
-    step false true = refl
-    step false false = refl
-
 -- a peer is there where the world has it
-pub there_is : (v : Parts) (w : World) (p : ℤ) → Members w → map number_in v.clients ≡ reverse (clients w) → has_peer v p ≡ is_in w p
-there_is v w p m numbers =
-    ap (λ b. int_eq p server || b)
-    (has_place v.clients p ∙ ap (has_int p) numbers ∙ has_reversed p (clients w) ∙ ap (has_int p) (clients_are w m) ∙ sym (ap (λ gs. has_int p w.come && not (has_int p gs)) m.gone ∙ and_true (has_int p w.come)))
+pub there_is : (v : Parts) (w : World) (p : ℤ) → map number_in v.clients ≡ reverse (clients w) → has_peer v p ≡ is_in w p
+there_is v w p numbers = ap (λ b. int_eq p server || b) (has_place v.clients p ∙ ap (has_int p) numbers ∙ has_reversed p (clients w) ∙ has_left p w.gone w.come)
+
+pub as_many : (w : World) (cs : List Client) → map number_in cs ≡ reverse (clients w) → length cs ≡ length (clients w)
+as_many w cs numbers = sym (length-map cs number_in) ∙ ap (λ xs. length xs) numbers ∙ length-reversed (clients w)
+
+-- the numbers of clients, as they change
+
+pub numbers_with : (packets : List Out) (cs : List Client) → map number_in (with_packets packets cs) ≡ map number_in cs
+numbers_with packets [] = refl
+numbers_with packets (c ∷ cs) = ap (λ ns. c.number ∷ ns) (numbers_with packets cs)
+
+pub numbers_set : (cs : List Client) (i : ℕ) (c d : Client) → slice_get cs i ≡ Some c → d.number ≡ c.number → map number_in (slice_set cs i d) ≡ map number_in cs
+numbers_set [] i c d at is = refl
+numbers_set (x ∷ cs) zero c d at is = let same : x ≡ c = cc in ap (λ n. n ∷ map number_in cs) (is ∙ ap number_in (sym same))
+numbers_set (x ∷ cs) (suc i) c d at is = ap (λ ns. x.number ∷ ns) (numbers_set cs i c d at is)
+
+pub numbers_left : (p : ℤ) (cs : List Client) → map number_in (filter (λ (c : Client). not (int_eq c.number p)) cs) ≡ filter (λ n. not (int_eq n p)) (map number_in cs)
+numbers_left p [] = refl
+numbers_left p (c ∷ cs) = step (not (int_eq c.number p)) (numbers_left p cs)
   where
-    and_true : (t : Bool) → (t && true) ≡ t
-    and_true true = refl
-    and_true false = refl
+    rest : List Client
+    rest = filter (λ (d : Client). not (int_eq d.number p)) cs
 
--- numbers by their places, where nobody went
+    step : (t : Bool) → map number_in rest ≡ filter (λ n. not (int_eq n p)) (map number_in cs) → map number_in (cond t (c ∷ rest) rest) ≡ cond t (c.number ∷ filter (λ n. not (int_eq n p)) (map number_in cs)) (filter (λ n. not (int_eq n p)) (map number_in cs))
+    step true more = ap (λ ns. c.number ∷ ns) more
+    step false more = more
 
-length-reversed : (xs : List ℤ) → length (reverse xs) ≡ length xs
-length-reversed [] = refl
-length-reversed (x ∷ xs) =
-    let joined = length-append (reverse xs) (x ∷ []) in
-    let before = length-reversed xs in
-    ap (λ ys. length ys) (reversed x xs) ∙ omega (arith, joined, before)
+-- numbers at places
 
-counted : (n : ℕ) → EachAt (λ i x. x ≡ number_of i) (reverse (numbers_to n))
-counted zero = λ i x h. absurd (cc h)
-counted (suc n) =
-    subst (EachAt (λ i x. x ≡ number_of i)) (sym (reversed (number_of n) (numbers_to n)))
-    (each_more (λ i x. x ≡ number_of i) (reverse (numbers_to n)) (number_of n) (counted n) (ap number_of (sym (length-reversed (numbers_to n) ∙ length-numbers n))))
+-- a number that no client has
+pub outside_at : (p : ℤ) (cs : List Client) (i : ℕ) (c : Client) → has_int p (map number_in cs) ≡ false → slice_get cs i ≡ Some c → int_eq p c.number ≡ false
+outside_at p [] i c h at = absurd (cc at)
+outside_at p (d ∷ cs) zero c h at = ap (λ (x : Client). int_eq p x.number) (sym (some_same d c at)) ∙ (or_parts (int_eq p d.number) (has_int p (map number_in cs)) h).0
+outside_at p (d ∷ cs) (suc i) c h at = outside_at p cs i c (or_parts (int_eq p d.number) (has_int p (map number_in cs)) h).1 at
 
-mapped_at : (cs : List Client) (i : ℕ) (c : Client) → slice_get cs i ≡ Some c → slice_get (map number_in cs) i ≡ Some c.number
-mapped_at [] i c h = absurd (cc h)
-mapped_at (d ∷ cs) zero c h = ap (λ (x : Client). Some x.number) (some_same d c h)
-mapped_at (d ∷ cs) (suc i) c h = mapped_at cs i c h
+-- where none stands twice, those at two places differ
+pub apart_at : (cs : List Client) (i j : ℕ) (c d : Client) → is_once (map number_in cs) ≡ true → slice_get cs i ≡ Some c → slice_get cs j ≡ Some d → nat_eq i j ≡ false → int_eq c.number d.number ≡ false
+apart_at [] i j c d h at there n = absurd (cc at)
+apart_at (x ∷ cs) zero zero c d h at there n = absurd (cc n)
+apart_at (x ∷ cs) zero (suc j) c d h at there n =
+    ap (λ (y : Client). int_eq y.number d.number) (sym (some_same x c at)) ∙ outside_at x.number cs j d (unnot (has_int x.number (map number_in cs)) (and_parts (not (has_int x.number (map number_in cs))) (is_once (map number_in cs)) h).0) there
+apart_at (x ∷ cs) (suc i) zero c d h at there n =
+    ap (λ (y : Client). int_eq c.number y.number) (sym (some_same x d there)) ∙ int_comm c.number x.number ∙ outside_at x.number cs i c (unnot (has_int x.number (map number_in cs)) (and_parts (not (has_int x.number (map number_in cs))) (is_once (map number_in cs)) h).0) at
+apart_at (x ∷ cs) (suc i) (suc j) c d h at there n = apart_at cs i j c d (and_parts (not (has_int x.number (map number_in cs))) (is_once (map number_in cs)) h).1 at there (grind (arith, nat_tests, n))
 
-pub numbered : (w : World) (cs : List Client) → Members w → map number_in cs ≡ reverse (clients w) → (i : ℕ) (c : Client) → slice_get cs i ≡ Some c → c.number ≡ number_of i
-numbered w cs m numbers i c at =
-    counted (length w.come) i c.number (sym (ap (λ xs. slice_get xs i) (numbers ∙ ap reverse (clients_are w m ∙ m.numbers))) ∙ mapped_at cs i c at)
+-- of clients of a world, none is the server, and none stands twice
 
-pub as_many : (w : World) (cs : List Client) → Members w → map number_in cs ≡ reverse (clients w) → length cs ≡ length w.come
-as_many w cs m numbers = sym (length-map cs number_in) ∙ ap (λ xs. length xs) numbers ∙ length-reversed (clients w) ∙ ap (λ xs. length xs) (clients_are w m)
+pub server_outside_of : (w : World) (cs : List Client) → Members w → map number_in cs ≡ reverse (clients w) → has_int server (map number_in cs) ≡ false
+server_outside_of w cs m numbers = ap (has_int server) numbers ∙ has_reversed server (clients w) ∙ has_left server w.gone w.come ∙ ap (λ t. t && not (has_int server w.gone)) (ap (has_int server) m.numbers ∙ server_outside (length w.come))
+
+pub all_once : (w : World) (cs : List Client) → Members w → map number_in cs ≡ reverse (clients w) → is_once (map number_in cs) ≡ true
+all_once w cs m numbers = ap is_once numbers ∙ once_reversed (clients w) (once_kept (λ p. not (has_int p w.gone)) w.come (ap is_once m.numbers ∙ numbers_once (length w.come)))
+
+-- the next number is none of theirs
+pub next_outside : (w : World) (cs : List Client) → Members w → map number_in cs ≡ reverse (clients w) → has_int (next_client w) (map number_in cs) ≡ false
+next_outside w cs m numbers =
+    let n = length w.come in
+    let below : nat_lt n n ≡ false = grind (arith, nat_tests) in
+    ap (has_int (next_client w)) numbers ∙ has_reversed (next_client w) (clients w) ∙ has_left (next_client w) w.gone w.come ∙ ap (λ t. t && not (has_int (next_client w) w.gone)) (ap (has_int (next_client w)) m.numbers ∙ has_number_to n n ∙ below)

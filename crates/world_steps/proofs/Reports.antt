@@ -20,11 +20,12 @@ use Rattle.peer_model.specs.Bytes.{accepted_events}
 use Rattle.world_model.specs.World.{World, peer_of, accepted_at, events_at}
 use Rattle.world_model.specs.Happens.{world}
 use Rattle.world_model.specs.Replicas.{is_joined, replica, rows_at, fixed_at, reported}
-use Rattle.world_steps.specs.Scripts.{Happened, IsSettled, ReplicasSettle}
+use Rattle.world_steps.specs.Scripts.{Happened, ReplicasSettle}
 use Rattle.world_steps.specs.Steps.{kept_report}
 use Rattle.world_steps.specs.Stands.{IsPeer}
-use Rattle.world_steps.proofs.Runs.{heard_at, events_are, heard_is}
-use Rattle.world_steps.proofs.Happenings.{Run, runs}
+use Rattle.world_steps.proofs.Runs.{events_are, heard_is}
+use Rattle.world_steps.proofs.Joins.{Run}
+use Rattle.world_steps.proofs.Happenings.{runs}
 use Rattle.world_steps.proofs.Pairs.{joined_parts, pair_of, whole_seen, prefix_seen, replica_seen}
 
 -- what is seen of each joined peer is its replica

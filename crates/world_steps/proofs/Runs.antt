@@ -1,42 +1,37 @@
 -- What holds of every world that a script of built events makes: each event of a peer was accepted, and each way of a link has the changes that its sender told.
-use Rattle.std.proofs.Common.{◌≡◌, ℕ, zero, suc, ◌+◌, ◌≤◌, ℤ, pos, Bool, true, false, not, ◌&&◌, ◌||◌, List, [], ◌∷◌, ◌++◌, length, map, filter, take, refl, sym, ap, ap₂, ◌∙◌, subst, arith, nat_eq, Option, Some, None, Ok}
-use Rattle.std.specs.Prelude.{slice_get, is_none, int_lt, nat_le, nat_lt, filter_map, flat_map, if◌then◌else◌}
-use Rattle.std.specs.List.{list_all, cons_option}
+use Rattle.std.proofs.Common.{◌≡◌, ℕ, ◌+◌, ◌≤◌, ℤ, Bool, true, false, not, ◌&&◌, ◌||◌, List, [], ◌∷◌, ◌++◌, length, map, reverse, refl, sym, ap, ap₂, ◌∙◌, subst, arith, Option, Some, None}
+use Rattle.std.specs.Prelude.{is_none, nat_lt, if◌then◌else◌}
+use Rattle.std.specs.List.{list_all}
 use Rattle.std.specs.Ordering.{int_eq}
 use Rattle.std.proofs.lemmas.Bool.Decides.{nat_tests}
-use Rattle.std.proofs.lemmas.Bool.{true≢false, and_from, and_parts, or_from, or_parts}
-use Rattle.gd_variant.specs.Words.{has_int, when, first_of}
-use Rattle.gd_variant.specs.declared.message.Message.TheVariants.{Plain as plain_packet}
+use Rattle.std.proofs.lemmas.Bool.{true≢false, and_from, and_parts, or_parts}
+use Rattle.gd_variant.specs.Words.{has_int}
 use Rattle.scene_model.specs.declared.scene.Scene.{Scene}
-use Rattle.scene_model.specs.declared.event.Class.TheVariants.{Reliable}
 use Rattle.scene_model.specs.declared.event.Op.{Op as Operation}
 use Rattle.scene_model.specs.declared.event.Event.{Event}
 use Rattle.scene_model.specs.declared.event.Event.TheVariants as event
-use Rattle.scene_model.specs.declared.outcome.Out.{Out}
 use Rattle.scene_model.specs.Valid.{IsValidScene}
-use Rattle.peer_model.specs.Heard.{Who, Heard, does, comes, server}
+use Rattle.peer_model.specs.Heard.{Who, Heard, comes, server}
 use Rattle.peer_model.specs.Peers.{is_up, was_up, peers_up}
-use Rattle.peer_model.specs.Updates.{Update}
 use Rattle.peer_model.specs.Changes.{changes}
 use Rattle.peer_model.specs.View.{updates_from}
 use Rattle.peer_model.specs.Refusals.{refusal_of}
 use Rattle.peer_model.specs.Faults.{fault_of}
 use Rattle.peer_model.specs.Answer.{accepted, judge, decided, sends}
-use Rattle.peer_model.specs.Bytes.{PacketForm, heard_of, out_of, outcome_of, accepted_events, answer}
+use Rattle.peer_model.specs.Bytes.{heard_of, out_of, outcome_of, accepted_events}
 use Rattle.peer_model.proofs.Accept.{accepted_done}
 use Rattle.peer_laws.specs.Built.{Accepts, AllAccepted}
-use Rattle.peer_laws.proofs.Numbers.{int_is, int_same, int_comm}
-use Rattle.peer_laws.proofs.Tests.{never, not_false}
-use Rattle.peer_laws.proofs.Ups.{up_is_direct}
+use Rattle.peer_laws.proofs.Numbers.{int_is, int_same}
+use Rattle.peer_laws.proofs.Tests.{never}
+use Rattle.peer_laws.proofs.Ups.{has_up, up_is_direct}
 use Rattle.peer_core.specs.Forms.{packet_form}
-use Rattle.peer_steps.proofs.Packets as packets
-use Rattle.world_model.specs.World.{Parcel, Way, Came, World, peer_of, is_in, heard_in, keep_entry, accepted_entries, accepted_history, accepted_at, events_at, next_client}
-use Rattle.world_model.specs.Happens.{packets_in, path_called, parcel_of, parcels_made, on_link, way_with, fed, by_itself, answer_at}
+use Rattle.world_model.specs.World.{Parcel, Came, World, peer_of, is_in, is_client, clients, heard_in, keep_entry, accepted_entries, accepted_history, accepted_at, events_at}
+use Rattle.world_model.specs.Happens.{packets_in, path_called, parcels_made, on_link, way_with, fed, by_itself, answer_at}
 use Rattle.world_model.specs.Answers.{has_no_link}
 use Rattle.world_steps.proofs.SoundValues.{is_sound_heard}
 use Rattle.world_steps.proofs.Readable.{up_readable}
-use Rattle.world_steps.proofs.Numbers.{number_of, numbers_to, has_number_to, not_server}
-use Rattle.world_steps.proofs.Links.{AllReadable, IsLink, told_parcels, adds_up, link_posts, link_posts_no_loose, link_posts_nothing, link_more, link_stays}
+use Rattle.world_steps.proofs.Numbers.{number_of, numbers_to, has_left, has_number_to, has_reversed, not_server}
+use Rattle.world_steps.proofs.Links.{IsLink, OwnTags, is_straight, told_parcels, adds_up, link_posts, link_posts_no_loose, link_posts_nothing, link_more, link_stays}
 
 -- all events of a peer
 abbrev pub heard_at : World → ℤ → List Heard
@@ -117,24 +112,28 @@ pub record IsEvent (s : Scene) (w : World) (p : ℤ) (c : Came) : Type 0 where
   pub accepts : Accepts (peer_of s p) (heard_at w p) (heard_of packet_form c.event)
   pub sound : is_sound_heard (heard_of packet_form c.event) ≡ true
   pub own : is_own_entry p c ≡ true
-  pub posts : (b : ℤ) → packets.is_direct (peer_of s p) b ≡ true → on_link b true (parcels_made packet_form s w p c) ≡ told_parcels p b (adds_up (peer_of s p) (heard_of packet_form c.event) (heard_at w p) b)
+  pub posts : (b : ℤ) → is_straight (peer_of s p) b ≡ true → on_link b true (parcels_made packet_form s w p c) ≡ told_parcels p b (adds_up (peer_of s p) (heard_of packet_form c.event) (heard_at w p) b)
   pub no_loose : (b : ℤ) → on_link b false (parcels_made packet_form s w p c) ≡ []
+
+-- an event whose parcels are its peer's own
+pub event_of : (s : Scene) (w : World) (p : ℤ) (c : Came) → AllAccepted (peer_of s p) (heard_at w p) → Accepts (peer_of s p) (heard_at w p) (heard_of packet_form c.event) → is_sound_heard (heard_of packet_form c.event) ≡ true → is_own_entry p c ≡ true → OwnTags p c → IsEvent s w p c
+event_of s w p c all a sound own tags = record {
+  accepts = a;
+  sound = sound;
+  own = own;
+  posts = λ b direct. link_posts s p b c (heard_at w p) (packets_in (answer_at packet_form s w p c.event)) (a, all) direct tags (packets_are s w p c.event all a);
+  no_loose = λ b. loose b (is_straight (peer_of s p) b) refl;
+}
+  where
+    loose : (b : ℤ) (t : Bool) → is_straight (peer_of s p) b ≡ t → on_link b false (parcels_made packet_form s w p c) ≡ []
+    loose b true direct = link_posts_no_loose s p b c (heard_at w p) (packets_in (answer_at packet_form s w p c.event)) (a, all) direct (packets_are s w p c.event all a)
+    loose b false direct = link_posts_nothing s p b false c (heard_of packet_form c.event) (heard_at w p) (packets_in (answer_at packet_form s w p c.event)) (a, all)
+        (never (is_up (heard_of packet_form c.event ∷ heard_at w p) b) (λ up. sym (up_is_direct (peer_of s p) (heard_of packet_form c.event ∷ heard_at w p) (a, all) b up) ∙ direct))
+        (packets_are s w p c.event all a)
 
 -- an event that no parcel brought
 pub event_by_itself : (s : Scene) (w : World) (p : ℤ) (e : Event) → AllAccepted (peer_of s p) (heard_at w p) → Accepts (peer_of s p) (heard_at w p) (heard_of packet_form e) → is_sound_heard (heard_of packet_form e) ≡ true → path_called e ≡ None → IsEvent s w p (by_itself e)
-event_by_itself s w p e all a sound plain = record {
-  accepts = a;
-  sound = sound;
-  own = refl;
-  posts = λ b direct. link_posts s p b e (heard_at w p) (packets_in (answer_at packet_form s w p e)) (a, all) direct plain (packets_are s w p e all a);
-  no_loose = λ b. loose b (packets.is_direct (peer_of s p) b) refl;
-}
-  where
-    loose : (b : ℤ) (t : Bool) → packets.is_direct (peer_of s p) b ≡ t → on_link b false (parcels_made packet_form s w p (by_itself e)) ≡ []
-    loose b true direct = link_posts_no_loose s p b e (heard_at w p) (packets_in (answer_at packet_form s w p e)) (a, all) direct (packets_are s w p e all a)
-    loose b false direct = link_posts_nothing s p b false (by_itself e) (heard_of packet_form e) (heard_at w p) (packets_in (answer_at packet_form s w p e)) (a, all)
-        (never (is_up (heard_of packet_form e ∷ heard_at w p) b) (λ up. sym (up_is_direct (peer_of s p) (heard_of packet_form e ∷ heard_at w p) (a, all) b up) ∙ direct))
-        (packets_are s w p e all a)
+event_by_itself s w p e all a sound plain = event_of s w p (by_itself e) all a sound refl (λ x. ap (λ o. record { origin = p; target = x.to; tick = x.tick; path = o; forged = false }) plain)
 
 -- a peer takes an event, by what becomes of each way before its own parcels are put there
 pub fed_core : (s : Scene) (w : World) (p : ℤ) (c : Came) → IsValidScene s → IsEvent s w p c
@@ -177,7 +176,7 @@ fed_core s w p c valid is all sound own loose taken kept = record {
     link_at a b l true k true m = absurd (true≢false (sym (ap₂ int_eq (int_is a p k) (int_is b p m) ∙ int_same p) ∙ (link_ends a b l).0))
     link_at a b l true k false m =
         let same = int_is a p k in
-        let direct : packets.is_direct (peer_of s p) b ≡ true = ap (λ x. int_eq x server || int_eq b server) (sym same) ∙ (link_ends a b l).1 in
+        let direct : is_straight (peer_of s p) b ≡ true = ap (λ x. int_eq x server || int_eq b server) (sym same) ∙ (link_ends a b l).1 in
         subst (λ q. IsLink s q b (e ∷ heard_at w q) (heard_at w b) (w.history b) (way_with (w.way q b) b ps)) (sym same)
         (link_more s p b e (heard_at w p) (heard_at w b) (w.history b) (w.way p b) ps (is.posts b direct) (up_readable (peer_of s p) (heard_at w p) e b valid (all p) (sound p) is.accepts is.sound)
         (subst (λ q. IsLink s q b (heard_at w q) (heard_at w b) (w.history b) (w.way q b)) same (kept a b l m)))
@@ -193,19 +192,22 @@ fed_itself s w p e valid h a sound plain silent = fed_core s w p (by_itself e) v
 
 -- who is there
 
--- Who is there, and who knows whom.
+-- Who is there, and who knows whom: those that are up at the server are the clients that are there, in the order in which they came.
 pub record Members (w : World) : Type 0 where
-  pub gone : w.gone ≡ []
   pub wild : w.wild ≡ []
   pub numbers : w.come ≡ numbers_to (length w.come)
-  pub few : length (peers_up (heard_at w server)) ≤ length w.come
-  pub known : (p : ℤ) → has_int p w.come ≡ true → is_up (heard_at w server) p ≡ true
+  pub went : (p : ℤ) → has_int p w.gone ≡ true → has_int p w.come ≡ true
+  pub ups : peers_up (heard_at w server) ≡ reverse (clients w)
   pub knows : (p : ℤ) → has_int p w.come ≡ true → is_up (heard_at w p) server ≡ true
   pub fresh : (n : ℕ) → length w.come ≤ n → (w.history (number_of n) ≡ []) × (was_up (heard_at w server) (number_of n) ≡ false)
 
 -- a peer that is there is a client that came, or the server
 pub come_is : (w : World) (p : ℤ) → Members w → is_in w p ≡ true → int_eq p server ≡ false → has_int p w.come ≡ true
 come_is w p m there other = (and_parts (has_int p w.come) (not (has_int p w.gone)) (sym (ap (λ t. t || (has_int p w.come && not (has_int p w.gone))) other) ∙ there)).0
+
+-- those that are up at the server are the clients that are there
+pub up_is_client : (w : World) (p : ℤ) → Members w → is_up (heard_at w server) p ≡ is_client w p
+up_is_client w p m = sym (has_up (heard_at w server) p) ∙ ap (has_int p) m.ups ∙ has_reversed p (clients w) ∙ has_left p w.gone w.come
 
 -- a number that didn't come is none of those that are there
 pub number_outside : (w : World) (p : ℤ) (n : ℕ) → Members w → is_in w p ≡ true → length w.come ≤ n → int_eq (number_of n) p ≡ false
@@ -231,11 +233,10 @@ op_no_news e op is = record {
 
 pub members_fed : (s : Scene) (w : World) (p : ℤ) (c : Came) → is_in w p ≡ true → NoNews (heard_of packet_form c.event) → Members w → Members (fed packet_form s w p c)
 members_fed s w p c there news m = record {
-  gone = m.gone;
   wild = m.wild;
   numbers = m.numbers;
-  few = few_at (int_eq server p);
-  known = λ q h. known_at q h (int_eq server p);
+  went = m.went;
+  ups = ups_at (int_eq server p);
   knows = λ q h. knows_at q h (int_eq q p);
   fresh = λ n far. (
     ap (λ t. if t then c ∷ w.history (number_of n) else w.history (number_of n)) (number_outside w p n m there far) ∙ (m.fresh n far).0,
@@ -246,13 +247,9 @@ members_fed s w p c there news m = record {
     e : Heard
     e = heard_of packet_form c.event
 
-    few_at : (t : Bool) → length (peers_up (heard_in packet_form (if t then c ∷ w.history server else w.history server))) ≤ length w.come
-    few_at true = subst (λ us. length us ≤ length w.come) (sym (news.peers (heard_at w server))) m.few
-    few_at false = m.few
-
-    known_at : (q : ℤ) → has_int q w.come ≡ true → (t : Bool) → is_up (heard_in packet_form (if t then c ∷ w.history server else w.history server)) q ≡ true
-    known_at q h true = news.up (heard_at w server) q ∙ m.known q h
-    known_at q h false = m.known q h
+    ups_at : (t : Bool) → peers_up (heard_in packet_form (if t then c ∷ w.history server else w.history server)) ≡ reverse (clients w)
+    ups_at true = news.peers (heard_at w server) ∙ m.ups
+    ups_at false = m.ups
 
     knows_at : (q : ℤ) → has_int q w.come ≡ true → (t : Bool) → is_up (heard_in packet_form (if t then c ∷ w.history q else w.history q)) server ≡ true
     knows_at q h true = news.up (heard_at w q) server ∙ m.knows q h

@@ -1,16 +1,18 @@
 -- The values of own nodes are sound, where those of the operations are.
-use Rattle.std.proofs.Common.{◌≡◌, ℕ, Bool, true, not, ◌&&◌, List, [], ◌∷◌, refl, nat_lt}
+use Rattle.std.proofs.Common.{◌≡◌, ℕ, Bool, true, not, List, [], ◌∷◌, refl, nat_lt, Option, Some, None}
 use Rattle.std.specs.List.{list_all}
 use Rattle.std.proofs.lemmas.Bool.{and_parts, or_parts}
 use Rattle.gd_variant.specs.Size.{value_size}
 use Rattle.gd_variant.specs.Sound.{is_sound, is_text}
-use Rattle.scene_model.specs.declared.event.Op.TheVariants.{Spawn, Set}
+use Rattle.gd_variant.specs.declared.value.Variant.{Variant}
+use Rattle.scene_model.specs.declared.event.Op.TheVariants.{Spawn, Custom, Set}
 use Rattle.scene_model.specs.Valid.{IsValidScene}
 use Rattle.peer_model.specs.Heard.{Who, Heard, does, comes, goes, gets}
 use Rattle.peer_model.specs.Values.{own_value}
 use Rattle.peer_laws.specs.Built.{AllAccepted}
 use Rattle.peer_laws.proofs.Tests.{not_false}
-use Rattle.peer_laws.proofs.Passing.{IsPassed, AssignsPassed, AllAssignPassed, own_passes}
+use Rattle.peer_laws.proofs.Passing.{IsPassed, AssignsPassed, AllAssignPassed, ok_if, own_passes}
+use Rattle.peer_steps.specs.Arguments.{is_sound_argument}
 use Rattle.world_steps.specs.Sound.{has_sound, is_sound_op}
 
 -- what is asked of an event at a peer
@@ -18,9 +20,14 @@ abbrev pub is_sound_heard : Heard → Bool
 is_sound_heard (does op) = is_sound_op op
 is_sound_heard e = true
 
+argument_sound : (o : Option Variant) → is_sound_argument o ≡ true → ok_if is_sound o ≡ true
+argument_sound None h = refl
+argument_sound (Some v) h = h
+
 -- what such an event assigns is sound
 assigned_sound : (e : Heard) → is_sound_heard e ≡ true → AssignsPassed is_sound e
 assigned_sound (does (Spawn o)) s = (and_parts (is_text o.name) (list_all has_sound o.sets) s).1
+assigned_sound (does (Custom o)) s = argument_sound o.arg (and_parts (is_text o.name) (is_sound_argument o.arg) s).1
 assigned_sound (does (Set p q value)) s = s
 assigned_sound (does op) s = tt
 assigned_sound (comes b) s = tt

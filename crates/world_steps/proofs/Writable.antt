@@ -1,64 +1,107 @@
--- The packet of an own row can be written, and is read again, where the operations are sound.
-use Rattle.std.proofs.Common.{◌≡◌, ℕ, zero, suc, ◌+◌, ◌^◌, ◌<◌, ◌≤◌, Bool, true, List, [], ◌∷◌, length, map, refl, sym, ap, ◌∙◌, subst, arith, Some, None}
-use Rattle.std.specs.Prelude.{option_and_then}
-use Rattle.std.specs.List.{list_all, AllByRecursion}
-use Rattle.std.proofs.lemmas.Bool.{ltb-false, and_parts, and_from}
-use Rattle.std.proofs.lemmas.List.{length-map}
-use Rattle.gd_variant.specs.Words.{or_else, place_of}
-use Rattle.gd_variant.specs.Sound.{is_sound, is_text, has_no_zero}
+-- The packet of a change can be written, and is read again, where the operations are sound.
+use Rattle.std.proofs.Common.{◌≡◌, ℕ, zero, suc, ◌*◌, ◌^◌, ◌<◌, ◌≤◌, ℤ, Bool, true, false, cond, not, ◌||◌, List, [], ◌∷◌, length, refl, arith, nat_eq, nat_le, inl, inr, Option, Some, None, length-append}
+use Rattle.std.specs.Prelude.{find, is_none, nat_lt}
+use Rattle.std.specs.Int.{w8, w32}
+use Rattle.std.specs.List.{list_all}
 use Rattle.std.specs.Str.{is_utf8}
+use Rattle.std.proofs.lemmas.Bool.{cases_Bool, leb-true, lt-ltb, ltb-true, leb-false, eqb-true, and_parts, or_parts}
+use Rattle.byte_fields.specs.Fields.{word}
+use Rattle.gd_variant.specs.Tree.{Tree, boolean, int, plain}
+use Rattle.gd_variant.specs.Size.{int_width, tree_size, small_tree_size}
+use Rattle.gd_variant.specs.Sound.{is_sound, is_text, has_no_zero}
 use Rattle.gd_variant.specs.declared.value.Variant.{Variant}
 use Rattle.gd_variant.specs.declared.message.Plain.TheVariants as packet
 use Rattle.gd_variant.specs.declared.message.Message.TheVariants.{Plain as plain_packet}
-use Rattle.packet_form.specs.Packets.{IsEncodable}
-use Rattle.packet_form.specs.Written.{FitsSpawn, IsName, AreIds}
+use Rattle.variant_codec.proofs.Forms.{small_written_size, small_int_short}
+use Rattle.packet_form.specs.Packets.{most_bytes}
+use Rattle.packet_form.specs.Written.{FitsSpawn, IsName, IsArgSound, AreIds, AreSound, arg_bytes, written_value, written_values, written_packet}
+use Rattle.packet_form.proofs.Lengths.{byte_size, word_size, filled_spawn_size}
+use Rattle.packet_form.proofs.Written.{round_trip}
 use Rattle.scene_model.specs.declared.scene.Scene.{Scene}
 use Rattle.scene_model.specs.declared.scene.Node.{Node}
-use Rattle.scene_model.specs.declared.scene.SpawnerDef.{SpawnerDef}
 use Rattle.scene_model.specs.declared.scene.SyncDef.{SyncDef}
-use Rattle.scene_model.specs.declared.event.SpawnOp.{SpawnOp}
-use Rattle.scene_model.specs.declared.event.Op.TheVariants.{Spawn, Set}
-use Rattle.scene_model.specs.Lookup.{fixed_path_id, fixed_node_at, spawner_at, spawner_of}
+use Rattle.scene_model.specs.declared.spawn.SpawnMsg.{SpawnMsg}
+use Rattle.scene_model.specs.Lookup.{fixed_node_at}
 use Rattle.scene_model.specs.Paths.{is_name}
+use Rattle.scene_model.specs.Syncs.{fixed_bit}
 use Rattle.scene_model.specs.Valid.{IsValidScene}
-use Rattle.peer_model.specs.Heard.{Who, Heard, does, comes, goes, gets}
-use Rattle.peer_model.specs.Rows.{OwnRow, own_rows, row_made, next_number, syncs_at, spawned_scene, count_from}
-use Rattle.peer_model.specs.Values.{own_value}
-use Rattle.peer_model.specs.Updates.{Show, all_spawn_props, custom_byte}
-use Rattle.peer_model.specs.Changes.{show_of, scene_byte}
+use Rattle.peer_model.specs.Rows.{syncs_at}
+use Rattle.peer_model.specs.Updates.{Hide, Show, all_spawn_props, shown_place}
+use Rattle.peer_model.specs.Faults.{all_fit, bad_id, wrong_spawn}
 use Rattle.peer_model.specs.View.{fits}
-use Rattle.peer_model.specs.Answer.{update_packet}
-use Rattle.peer_model.specs.Refusals.{last_number}
-use Rattle.peer_laws.specs.Built.{Accepts, AllAccepted}
 use Rattle.peer_laws.proofs.Tests.{not_false}
-use Rattle.peer_laws.proofs.TreeSpawns.{spawn_is_allowed, spawn_is_placed, spawn_has_no_argument}
-use Rattle.peer_laws.proofs.Sight.{length-count_from}
-use Rattle.peer_laws.proofs.ValuesFit.{own_fits}
-use Rattle.peer_laws.proofs.Each.{all_joined}
-use Rattle.peer_laws.proofs.ScenesByNumber.{spawner_few}
-use Rattle.peer_laws.proofs.Homes.{maker}
-use Rattle.peer_laws.proofs.ShownRows.{node_named, some_again}
-use Rattle.peer_laws.proofs.Origins.{IsMade, every_made}
-use Rattle.peer_laws.proofs.Rows.{rows_come, rows_go, rows_set, rows_spawn, rows_receive}
-use Rattle.peer_steps.specs.Steps.{IsReadablePlain}
-use Rattle.peer_core.specs.Forms.{packet_form}
-use Rattle.peer_steps.specs.Rights.{is_right_value}
-use Rattle.peer_core.proofs.Encodable.{IsShown, spawn_encodable, readable, name_short}
-use Rattle.world_steps.specs.Sound.{has_sound, is_sound_op}
-use Rattle.world_steps.proofs.SoundValues.{is_sound_heard, own_sound}
-use Rattle.world_steps.proofs.Lists.{got_within}
 use Rattle.peer_steps.proofs.PlacesOf.{nodes_few}
-use Rattle.peer_steps.proofs.SpawnMade.{place_below}
+use Rattle.peer_core.proofs.SpawnProps.{AreFew, few_at}
+use Rattle.world_laws.specs.Said.{SaysShow}
+use Rattle.world_steps.proofs.Links.{IsReadable}
+use Rattle.world_steps.proofs.Lists.{got_within}
 
--- a valid scene has few nodes
+-- values
 
--- ids that count on
+-- the compressed form is no longer
+int_no_longer : (z : ℤ) → small_tree_size (int z) ≤ tree_size (int z)
+int_no_longer z =
+    let nine = small_int_short z in
+    let size = small_written_size (int z) in
+    elim (cases_Bool (nat_le (int_width z) 4)) [
+      | inl e ↦ let le = leb-true (int_width z) 4 e in rw e (omega (arith, le))
+      | inr e ↦ rw e (omega (arith, nine, size))
+    ]
 
-count_small : {X : Type 0} (n : ℕ) (xs : List X) → n + length xs ≤ 2147483648 → AreIds (count_from n xs)
-count_small n [] h = tt
-count_small n (x ∷ xs) h = (omega (arith, h), count_small (n + 1) xs (omega (arith, h)))
+no_longer : (t : Tree) → small_tree_size t ≤ tree_size t
+no_longer (boolean b) = omega arith
+no_longer (int z) = int_no_longer z
+no_longer t = omega arith
+
+value_short : (v : Variant) → fits v ≡ true → length (written_value v) ≤ 65536
+value_short v h =
+    let short = leb-true (tree_size (plain v)) 65536 h in
+    omega (arith, small_written_size (plain v), no_longer (plain v), short)
+
+values_short : (vs : List Variant) → list_all fits vs ≡ true → length (written_values vs) ≤ 65536 * length vs
+values_short [] h = omega arith
+values_short (v ∷ vs) h =
+    let p = and_parts (fits v) (list_all fits vs) h in
+    omega (arith, length-append (written_value v) (written_values vs), value_short v p.0, values_short vs p.1)
+
+values_sound : (vs : List Variant) → list_all is_sound vs ≡ true → AreSound vs
+values_sound [] h = tt
+values_sound (v ∷ vs) h = let p = and_parts (is_sound v) (list_all is_sound vs) h in (p.0, values_sound vs p.1)
+
+argument_short : (a : Option Variant) (vs : List Variant) → all_fit a vs ≡ true → (length (arg_bytes a) ≤ 65540) × (list_all fits vs ≡ true)
+argument_short None vs h = (omega arith, h)
+argument_short (Some v) vs h =
+    let p = and_parts (fits v) (list_all fits vs) h in
+    let four = word_size (length (written_value v)) in
+    (omega (arith, length-append (word w32 (length (written_value v))) (written_value v), four, value_short v p.0), p.1)
+
+-- numbers
+
+-- whether a number is below those of fixed nodes
+abbrev pub is_small : ℕ → Bool
+is_small n = nat_lt n fixed_bit
+
+pub good_small : (n : ℕ) → bad_id n ≡ false → is_small n ≡ true
+good_small n h = let high = leb-false fixed_bit n (or_parts (nat_eq n 0) (nat_le fixed_bit n) h).1 in lt-ltb n fixed_bit (omega (arith, high))
+
+pub none_bad : (n : ℕ) (ns : List ℕ) → find bad_id (n ∷ ns) ≡ None → (bad_id n ≡ false) × (find bad_id ns ≡ None)
+none_bad n ns h = step (bad_id n) h
+  where
+    step : (t : Bool) → cond t (Some n) (find bad_id ns) ≡ None → (t ≡ false) × (find bad_id ns ≡ None)
+    step true k = absurd (cc k)
+    step false k = (refl, k)
+
+ids_small : (ns : List ℕ) → find bad_id ns ≡ None → AreIds ns
+ids_small [] h = tt
+ids_small (n ∷ ns) h =
+    let parts = none_bad n ns h in
+    let low = ltb-true n fixed_bit (good_small n parts.0) in
+    (omega (arith, low), ids_small ns parts.1)
 
 -- names
+
+name_short : (name : List ℕ) → is_name name ≡ true → length name ≤ 64
+name_short name h = leb-true (length name) 64 (and_parts _ _ (and_parts _ _ h).0).1
 
 name_fits : (name : List ℕ) → is_name name ≡ true → is_text name ≡ true → IsName name
 name_fits name named text =
@@ -66,131 +109,95 @@ name_fits name named text =
     let short = name_short name named in
     record { zero = parts.0; utf8 = parts.1; short = omega (arith, short) }
 
--- the scene byte of an own row
-
-byte_below : (who : Who) (es : List Heard) (o : SpawnOp) → IsValidScene who.scene → Accepts who es (does (Spawn o)) → scene_byte who (row_made who es o) < 255
-byte_below who es o v now =
-    let by = maker who es o now in
-    let there : spawner_at who.scene o.spawner ≡ Some by.def = ap (option_and_then spawner_of) by.there ∙ by.role in
-    let is : scene_byte who (row_made who es o) ≡ or_else (place_of by.name by.def.scenes) custom_byte =
-    ap (λ n. scene_byte who (record (row_made who es o) { made_by = record o { scene = n } })) by.scene
-    ∙ ap (λ d. or_else (option_and_then (λ (c : SpawnerDef). place_of by.name c.scenes) d) custom_byte) there in
-    let low = place_below by.name by.def.scenes custom_byte by.listed in
-    let few = ltb-false 255 (length by.def.scenes) (spawner_few who.scene v o.spawner by.def there) in
-    subst (λ n. n < 255) (sym is) (omega (arith, low, few))
-
 -- the spawner's id
 
-id_small : (s : Scene) → IsValidScene s → (id : ℕ) (n : Node) → fixed_node_at s id ≡ Some n → id < 2 ^ 32
-id_small s v zero n h = omega arith
-id_small s v (suc i) n h = let below = got_within s.nodes i n h in let few = nodes_few s v in omega (arith, below, few)
-
--- values
-
-values_of : (who : Who) (es : List Heard) → IsValidScene who.scene → AllAccepted who es → list_all is_sound_heard es ≡ true → (path : List ℕ) (props : List (List ℕ)) → list_all is_right_value (map (own_value who es path) props) ≡ true
-values_of who es v all sound path [] = refl
-values_of who es v all sound path (p ∷ ps) =
-    and_from (is_right_value (own_value who es path p)) (list_all is_right_value (map (own_value who es path) ps))
-    (and_from (is_sound (own_value who es path p)) (fits (own_value who es path p)) (own_sound who es v all sound path p) (own_fits who es v all path p))
-    (values_of who es v all sound path ps)
-
--- the Show of an own row is read back
-show_written : (who : Who) (es before : List Heard) (o : SpawnOp) → IsValidScene who.scene → AllAccepted who es → list_all is_sound_heard es ≡ true → Accepts who before (does (Spawn o)) → is_text o.name ≡ true
-    → IsReadablePlain packet_form (update_packet (Show (show_of who es (row_made who before o))))
-show_written who es before o v all sound now text =
-    subst (λ a. IsReadablePlain packet_form (packet.Spawn byte spawner net ids o.name a values)) (sym (spawn_has_no_argument who before o now))
-    (readable (packet.Spawn byte spawner net ids o.name None values) (record { fits = (spawn_fits, can.sound.0, can.sound.1); short = can.short }))
+id_small : (s : Scene) → IsValidScene s → (id : ℕ) → is_none (fixed_node_at s id) ≡ false → id < 2 ^ 32
+id_small s v zero h = omega arith
+id_small s v (suc i) h = step (fixed_node_at s (suc i)) refl h
   where
-    r : OwnRow
-    r = row_made who before o
+    step : (o : Option Node) → fixed_node_at s (suc i) ≡ o → is_none o ≡ false → suc i < 2 ^ 32
+    step None e k = absurd (cc k)
+    step (Some n) e k = let below = got_within s.nodes i n e in let few = nodes_few s v in omega (arith, below, few)
 
-    byte : ℕ
-    byte = scene_byte who r
+-- at any place there are few synchronizers, and few properties
+few_of : (s : Scene) → IsValidScene s → (place : Option ℕ) → AreFew (syncs_at s place)
+few_of s v None = record { syncs = omega arith; props = omega arith }
+few_of s v (Some place) = few_at s v place
 
-    spawner : ℕ
-    spawner = or_else (fixed_path_id who.scene o.spawner) 0
+-- What is asked of a Show beside what it says: its name is a text, it has an argument just where its scene is a custom one, and its values are sound.
+pub record IsSoundShow (m : SpawnMsg) : Type 0 where
+  pub text : is_text m.name ≡ true
+  pub byte : m.scene < 256
+  pub argument : IsArgSound m.scene m.arg
+  pub values : list_all is_sound m.values ≡ true
 
-    net : ℕ
-    net = next_number who before
+-- what a right spawn has
+record Counts (defs : List SyncDef) (m : SpawnMsg) : Type 0 where
+  pub ids : length m.syncs ≡ length defs
+  pub values : length m.values ≡ length (all_spawn_props defs)
+  pub fit : all_fit m.arg m.values ≡ true
 
-    syncs : List SyncDef
-    syncs = syncs_at who.scene (spawned_scene who o)
-
-    ids : List ℕ
-    ids = count_from (net + 1) syncs
-
-    values : List Variant
-    values = map (own_value who es r.path) (all_spawn_props (syncs_at who.scene (Some r.place)))
-
-    named : is_name o.name ≡ true
-    named = not_false (is_name o.name) (spawn_is_allowed who before o now).name
-
-    placed : spawned_scene who o ≡ Some r.place
-    placed = sym (some_again (spawned_scene who o) (spawn_is_placed who before o v now))
-
-    last : net + length syncs ≤ 2147483647
-    last = ltb-false 2147483647 (last_number who before o) (spawn_is_allowed who before o now).numbers
-
-    shown : IsShown who.scene r.place byte ids o.name values
-    shown = record {
-      byte_below = byte_below who before o v now;
-      named = named;
-      each_id = length-count_from (net + 1) syncs ∙ ap (λ p. length (syncs_at who.scene p)) placed;
-      each_value = length-map (all_spawn_props (syncs_at who.scene (Some r.place))) (own_value who es r.path);
-      values_right = values_of who es v all sound r.path (all_spawn_props (syncs_at who.scene (Some r.place)));
+counts : (defs : List SyncDef) (m : SpawnMsg) → wrong_spawn defs m ≡ false → Counts defs m
+counts defs m h =
+    let last = or_parts (not (nat_eq (length m.syncs) (length defs)) || not (nat_eq (length m.values) (length (all_spawn_props defs)))) (not (all_fit m.arg m.values)) h in
+    let first = or_parts (not (nat_eq (length m.syncs) (length defs))) (not (nat_eq (length m.values) (length (all_spawn_props defs)))) last.0 in
+    record {
+      ids = eqb-true (length m.syncs) (length defs) (not_false (nat_eq (length m.syncs) (length defs)) first.0);
+      values = eqb-true (length m.values) (length (all_spawn_props defs)) (not_false (nat_eq (length m.values) (length (all_spawn_props defs))) first.1);
+      fit = not_false (all_fit m.arg m.values) last.1;
     }
 
-    can : IsEncodable (plain_packet (packet.Spawn byte spawner net ids o.name None values))
-    can = spawn_encodable who.scene v r.place byte spawner net ids o.name values shown
+-- a Show that says what it may is read back
+pub show_readable : (s : Scene) → IsValidScene s → (auth : ℤ) (m : SpawnMsg) → SaysShow s auth m → IsSoundShow m → IsReadable (Show m)
+show_readable s v auth m says sound = record {
+  back = round_trip (plain_packet (packet.Spawn m.scene m.spawner m.net m.syncs m.name m.arg m.values)) (record { fits = (spawn_fits, sound.argument, values_sound m.values sound.values); short = short });
+  row = refl;
+}
+  where
+    defs : List SyncDef
+    defs = syncs_at s (shown_place s m)
 
-    spawn_fits : FitsSpawn byte spawner net ids o.name
+    few : AreFew defs
+    few = few_of s v (shown_place s m)
+
+    has : Counts defs m
+    has = counts defs m says.right
+
+    named : is_name m.name ≡ true
+    named = not_false (is_name m.name) says.name
+
+    range : (bad_id m.net ≡ false) × (find bad_id m.syncs ≡ None)
+    range = none_bad m.net m.syncs says.range
+
+    spawn_fits : FitsSpawn m.scene m.spawner m.net m.syncs m.name
     spawn_fits =
-        let below = byte_below who before o v now in
-        let count = length-count_from (net + 1) syncs in
+        let low = ltb-true m.net fixed_bit (good_small m.net range.0) in
+        let byte = sound.byte in
+        let syncs = few.syncs in
+        let ids = has.ids in
         record {
-          scene_fits = omega (arith, below);
-          spawner_fits = id_small who.scene v spawner (maker who before o now).node (node_named who before v o now values);
-          net_fits = omega (arith, last);
-          count_fits = omega (arith, last, count);
-          syncs_fit = count_small (net + 1) syncs (omega (arith, last));
-          is_name = name_fits o.name named text;
+          scene_fits = omega (arith, byte);
+          spawner_fits = id_small s v m.spawner says.known;
+          net_fits = omega (arith, low);
+          count_fits = omega (arith, syncs, ids);
+          syncs_fit = ids_small m.syncs range.1;
+          is_name = name_fits m.name named sound.text;
         }
 
--- names of own rows
+    short : length (written_packet (plain_packet (packet.Spawn m.scene m.spawner m.net m.syncs m.name m.arg m.values))) ≤ most_bytes
+    short =
+        let arg = argument_short m.arg m.values has.fit in
+        let syncs = few.syncs in
+        let props = few.props in
+        let ids = has.ids in
+        let values = has.values in
+        omega (arith, filled_spawn_size m.scene m.spawner m.net m.syncs m.name m.arg m.values, values_short m.values arg.1, arg.0, name_short m.name named, ids, values, syncs, props)
 
-abbrev has_text_name : OwnRow → Bool
-has_text_name r = is_text r.made_by.name
-
-all_named : (who : Who) (es : List Heard) → AllAccepted who es → list_all is_sound_heard es ≡ true → list_all has_text_name (own_rows who es) ≡ true
-all_named who [] all s = refl
-all_named who (does (Spawn o) ∷ es) all s =
-    let parts = and_parts (is_sound_op (Spawn o)) (list_all is_sound_heard es) s in
-    ap (list_all has_text_name) (rows_spawn who es o)
-    ∙ all_joined has_text_name (own_rows who es) (row_made who es o ∷ []) (all_named who es all.1 parts.1) (and_from (is_text o.name) true (and_parts (is_text o.name) (list_all has_sound o.sets) parts.0).0 refl)
-all_named who (does (Set p q v) ∷ es) all s = ap (list_all has_text_name) (rows_set who es p q v) ∙ all_named who es all.1 (and_parts (is_sound v) (list_all is_sound_heard es) s).1
-all_named who (does op ∷ es) all s = absurd (cc all.0.built)
-all_named who (comes b ∷ es) all s = ap (list_all has_text_name) (rows_come who es b) ∙ all_named who es all.1 s
-all_named who (goes b ∷ es) all s = ap (list_all has_text_name) (rows_go who es b) ∙ all_named who es all.1 s
-all_named who (gets from class bytes read ∷ es) all s = ap (list_all has_text_name) (rows_receive who es from class bytes read) ∙ all_named who es all.1 s
-
--- the packet of a row's Show is read back
-abbrev pub IsWritten : Who → List Heard → OwnRow → Type 0
-IsWritten who es r = IsReadablePlain packet_form (update_packet (Show (show_of who es r)))
-
-made_written : (who : Who) (es : List Heard) (r : OwnRow) → IsValidScene who.scene → AllAccepted who es → list_all is_sound_heard es ≡ true → IsMade who r → has_text_name r ≡ true → IsWritten who es r
-made_written who es r v all sound made text = subst (IsWritten who es) (sym made.is)
-    (show_written who es made.before made.op v all sound made.now (ap has_text_name (sym made.is) ∙ text))
-
-rows_among : (who : Who) (es : List Heard) → IsValidScene who.scene → AllAccepted who es → list_all is_sound_heard es ≡ true → (rows : List OwnRow) → AllByRecursion (IsMade who) rows → list_all has_text_name rows ≡ true → AllByRecursion (IsWritten who es) rows
-rows_among who es v all sound [] made text = tt
-rows_among who es v all sound (r ∷ rows) made text =
-    let parts = and_parts (has_text_name r) (list_all has_text_name rows) text in
-    (made_written who es r v all sound made.0 parts.0, rows_among who es v all sound rows made.1 parts.1)
-
--- so with all own rows
-pub rows_written : (who : Who) (es : List Heard) → IsValidScene who.scene → AllAccepted who es → list_all is_sound_heard es ≡ true → AllByRecursion (IsWritten who es) (own_rows who es)
-rows_written who es v all sound = rows_among who es v all sound (own_rows who es) (every_made who es all) (all_named who es all sound)
-
--- and with the row that a spawn makes
-pub spawned_written : (who : Who) (es : List Heard) (o : SpawnOp) → IsValidScene who.scene → AllAccepted who es → list_all is_sound_heard es ≡ true → Accepts who es (does (Spawn o)) → is_sound_op (Spawn o) ≡ true → IsWritten who (does (Spawn o) ∷ es) (row_made who es o)
-spawned_written who es o v all sound now op = show_written who (does (Spawn o) ∷ es) es o v (now, all) (and_from (is_sound_op (Spawn o)) (list_all is_sound_heard es) op sound) now (and_parts (is_text o.name) (list_all has_sound o.sets) op).0
+-- so is a Hide of a small number
+pub hide_readable : (num : ℕ) → is_small num ≡ true → IsReadable (Hide num)
+hide_readable num h =
+    let low = ltb-true num fixed_bit h in
+    record { back = round_trip (plain_packet (packet.Despawn num)) (record { fits = omega (arith, low); short = short }); row = refl }
+  where
+    short : length (written_packet (plain_packet (packet.Despawn num))) ≤ most_bytes
+    short = let four = word_size num in let one = byte_size 5 in omega (arith, length-append (word w8 5) (word w32 num), four, one)

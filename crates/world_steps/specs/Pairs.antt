@@ -11,7 +11,7 @@ use Rattle.peer_model.specs.Peers.{is_up}
 use Rattle.peer_model.specs.Changes.{changes}
 use Rattle.peer_model.specs.View.{updates_from, reach}
 use Rattle.peer_model.specs.Bytes.{PacketForm}
-use Rattle.world_model.specs.World.{Tag, Parcel, Way, Came, World, peer_of, is_from_to, accepted_at}
+use Rattle.world_model.specs.World.{Tag, Parcel, Came, World, peer_of, is_from_to, accepted_at}
 use Rattle.world_model.specs.Happens.{on_link}
 use Rattle.world_model.specs.Replicas.{Dated, is_direct, arrived, packets_accepted}
 use Rattle.channel_laws.specs.Channels.{delivered_at, waiting_on, made_by, posted}

@@ -8,12 +8,12 @@ use Rattle.peer_model.specs.Heard.{server}
 use Rattle.peer_steps.specs.Kept.{Kept}
 use Rattle.peer_core.specs.Forms.{packet_form}
 use Rattle.peer_steps.specs.Stands.{StandsFor}
-use Rattle.world_model.specs.World.{Parcel, World, peer_of, clients, events_at}
+use Rattle.world_model.specs.World.{Parcel, World, peer_of, clients, events_at, bytes_in_flight, has_room}
 use Rattle.world_model.specs.Happens.{world}
-use Rattle.world_model.specs.Answers.{world_answer, happened}
+use Rattle.world_model.specs.Answers.{world_answer, happened, overflows}
 use Rattle.channel_laws.specs.Channels.{waiting_on}
 use Rattle.world_steps.specs.Sound.{is_built_event, is_sound_event}
-use Rattle.world_steps.specs.Steps.{Parts, Client, Made, scene_of, made}
+use Rattle.world_steps.specs.Steps.{Parts, Client, Made, scene_of, is_over, made}
 use Rattle.world_steps.specs.Scripts.{Happened}
 
 -- the packets of parcels
@@ -36,6 +36,8 @@ pub record HasParts (s : Scene) (v : Parts) (w : World) : Type 0 where
   pub live : v.spent ≡ false
   pub server : IsPeer s w server v.server
   pub come : v.come ≡ length w.come
+  pub put : v.put ≡ bytes_in_flight w
+  pub room : has_room w ≡ true
   pub numbers : map (λ (c : Client). c.number) v.clients ≡ reverse (clients w)
   pub clients : (i : ℕ) (c : Client) → slice_get v.clients i ≡ Some c → IsClient s w c
 
@@ -45,10 +47,11 @@ pub record StandsForScript (v : Parts) (es : List WorldEvent) : Type 0 where
   pub happened : Happened (scene_of v) es
   pub parts : HasParts (scene_of v) v (world packet_form (scene_of v) es)
 
--- What an event made is right: it is what the definitions answer, and what is kept then stands for the script with the event, where it happened; where it didn't, nothing changes.
+-- What an event made is right: it is what the definitions answer, it is over where the definitions overflow, and what is kept then stands for the script with the event, where it happened and isn't over; where it didn't happen, nothing changes.
 pub record IsRight (v : Parts) (es : List WorldEvent) (e : WorldEvent) (m : Made) : Type 0 where
   pub answers : m.outcome ≡ world_answer packet_form (scene_of v) (world packet_form (scene_of v) es) e
-  pub stands : happened m.outcome ≡ true → StandsForScript m.parts (e ∷ es)
+  pub over : is_over m ≡ overflows packet_form (scene_of v) (world packet_form (scene_of v) es) e
+  pub stands : happened m.outcome ≡ true → is_over m ≡ false → StandsForScript m.parts (e ∷ es)
   pub unchanged : happened m.outcome ≡ false → m.parts ≡ v
 
 -- so is each step of a world that stands for a script

@@ -1,5 +1,5 @@
 -- What a world keeps, and what each event makes of it.
-use Rattle.std.specs.Prelude.{◌≡◌, ℕ, suc, ◌+◌, ℤ, pos, Bool, true, false, not, ◌&&◌, ◌||◌, List, [], ◌∷◌, ◌++◌, map, filter, length, slice_get, Option, Some, None, is_some, option_map, option_and_then, nat_le, nat_lt, if◌then◌else◌}
+use Rattle.std.specs.Prelude.{◌≡◌, ℕ, suc, ◌+◌, ℤ, pos, Bool, true, false, not, ◌&&◌, ◌||◌, List, [], ◌∷◌, ◌++◌, map, filter, length, min, slice_get, sum_by, Option, Some, None, is_some, option_map, option_and_then, nat_le, nat_lt, if◌then◌else◌}
 use Rattle.std.specs.List.{slice_set}
 use Rattle.std.specs.Ordering.{int_eq}
 use Rattle.scene_model.specs.declared.scene.Scene.{Scene}
@@ -8,7 +8,7 @@ use Rattle.scene_model.specs.declared.event.Event.TheVariants as event
 use Rattle.scene_model.specs.declared.event.Op.{Op as Operation}
 use Rattle.scene_model.specs.declared.outcome.Out.{Out}
 use Rattle.scene_model.specs.declared.world.WorldEvent.{WorldEvent}
-use Rattle.scene_model.specs.declared.world.WorldEvent.TheVariants.{Connect, Op, Rel}
+use Rattle.scene_model.specs.declared.world.WorldEvent.TheVariants.{Connect, Down, Op, Rel}
 use Rattle.scene_model.specs.declared.world.WorldOutcome.{WorldOutcome}
 use Rattle.scene_model.specs.declared.world.WorldOutcome.TheVariants as answers
 use Rattle.scene_model.specs.declared.world.WorldNo.TheVariants as refusal
@@ -17,9 +17,9 @@ use Rattle.peer_model.specs.Heard.{server}
 use Rattle.peer_model.specs.View.{row_of}
 use Rattle.peer_model.specs.Refusals.{most_clients}
 use Rattle.peer_steps.specs.Kept.{Kept, new_peer}
-use Rattle.peer_steps.specs.Steps.{Taken, taken}
+use Rattle.peer_steps.specs.Steps.{Taken, taken, is_done}
 use Rattle.peer_core.specs.Forms.{packet_form}
-use Rattle.world_model.specs.World.{is_reliable}
+use Rattle.world_model.specs.World.{is_reliable, most_in_flight}
 use Rattle.world_model.specs.Happens.{packets_in}
 use Rattle.world_model.specs.Answers.{has_no_link, effects_in, step_of, peer_answer, most_number}
 
@@ -30,11 +30,12 @@ pub record Client : Type 0 where
   pub down : List Out
   pub up : List Out
 
--- what contracts see of a world: whether it is spent, the server, how many clients ever connected, and those that are there, by their numbers
+-- what contracts see of a world: whether it is spent, the server, how many clients ever connected, the bytes ever put in flight, and the clients that are there, by their numbers
 pub record Parts : Type 0 where
   pub spent : Bool
   pub server : Kept
   pub come : ℕ
+  pub put : ℕ
   pub clients : List Client
 
 -- an answer, with what is kept then
@@ -47,8 +48,8 @@ abbrev pub scene_of : Parts → Scene
 scene_of v = v.server.who.scene
 
 -- a world that isn't spent
-abbrev pub live_parts : Kept → ℕ → List Client → Parts
-live_parts k come cs = record { spent = false; server = k; come = come; clients = cs }
+abbrev pub live_parts : Kept → ℕ → ℕ → List Client → Parts
+live_parts k come put cs = record { spent = false; server = k; come = come; put = put; clients = cs }
 
 -- the number of the next client, by how many ever connected
 abbrev pub number_after : ℕ → ℕ
@@ -75,6 +76,14 @@ waits_for b x = int_eq x.link b && is_reliable x.class
 abbrev pub waiting_with : List Out → List Out → ℤ → List Out
 waiting_with xs packets b = xs ++ filter (waits_for b) packets
 
+-- the bytes of some packets
+abbrev pub packet_bytes : List Out → ℕ
+packet_bytes xs = sum_by (λ (x : Out). length x.bytes) xs
+
+-- the bytes ever put in flight, with those of some packets; above the most that may be the count stands still
+abbrev pub put_with : ℕ → List Out → ℕ
+put_with put xs = if nat_lt most_in_flight put then put else min (put + packet_bytes xs) (most_in_flight + 1)
+
 -- what waits before and after the next packet of a way is taken, if there is one
 abbrev pub IsTaken : List Out → List Out → Option Out → Type 0
 IsTaken old new None = (old ≡ []) × (new ≡ [])
@@ -82,7 +91,7 @@ IsTaken old new (Some x) = old ≡ x ∷ new
 
 -- the server alone
 abbrev pub first_parts : Scene → Parts
-first_parts s = record { spent = false; server = new_peer s server; come = 0; clients = [] }
+first_parts s = record { spent = false; server = new_peer s server; come = 0; put = 0; clients = [] }
 
 -- a new client that sent these packets
 abbrev pub new_client : ℤ → Kept → List Out → Client
@@ -96,6 +105,15 @@ with_down packets c = record c { down = waiting_with c.down packets c.number }
 abbrev pub with_packets : List Out → List Client → List Client
 with_packets packets cs = map (with_down packets) cs
 
+-- the clients that are left after one went down, where the server took that
+abbrev pub left_after : Bool → ℤ → List Client → List Client
+left_after true p cs = filter (λ (c : Client). not (int_eq c.number p)) cs
+left_after false p cs = cs
+
+-- whether more was put in flight than there is room for
+abbrev pub is_over : Made → Bool
+is_over m = nat_lt most_in_flight m.parts.put
+
 -- nothing changes
 abbrev pub unchanged : Parts → WorldOutcome → Made
 unchanged v o = record { outcome = o; parts = v }
@@ -108,7 +126,7 @@ is_full come cs = nat_le most_clients (length cs) || nat_lt most_number (number_
 abbrev pub connect_with : Parts → ℤ → Taken → Taken → Made
 connect_with v id s c = record {
   outcome = answers.Done (Some id) (step_of server (effects_in s.outcome) ∷ step_of id (effects_in c.outcome) ∷ []);
-  parts = record v { server = s.kept; come = v.come + 1; clients = with_packets (packets_in s.outcome) (v.clients ++ new_client id c.kept (packets_in c.outcome) ∷ []) };
+  parts = record v { server = s.kept; come = v.come + 1; put = put_with (put_with v.put (packets_in s.outcome)) (packets_in c.outcome); clients = with_packets (packets_in s.outcome) (v.clients ++ new_client id c.kept (packets_in c.outcome) ∷ []) };
 }
 
 -- the link to a client with this number comes up at the server, and the server's at the client
@@ -121,11 +139,22 @@ connect_made v = if is_full v.come v.clients then unchanged v (answers.Refused r
 
 -- an event at the server
 abbrev pub server_with : Parts → Taken → Made
-server_with v t = record { outcome = peer_answer server t.outcome; parts = record v { server = t.kept; clients = with_packets (packets_in t.outcome) v.clients } }
+server_with v t = record { outcome = peer_answer server t.outcome; parts = record v { server = t.kept; put = put_with v.put (packets_in t.outcome); clients = with_packets (packets_in t.outcome) v.clients } }
 
 -- the server takes an event
 abbrev pub server_made : Parts → Event → Made
 server_made v e = server_with v (taken packet_form v.server e)
+
+-- a client goes down, as the server takes that: what waits on its link goes with it
+abbrev pub down_with : Parts → ℤ → Taken → Made
+down_with v p t = server_with (record v { clients = left_after (is_done t.outcome) p v.clients }) t
+
+-- a client goes down, where it is there
+abbrev pub down_made : Parts → ℤ → Made
+down_made v p =
+    if int_eq p server then unchanged v (answers.Refused refusal.Server)
+    else if is_some (place_of p v.clients) then down_with v p (taken packet_form v.server (event.Down p))
+    else unchanged v (answers.Refused refusal.NoPeer)
 
 -- a world with another client at a place
 abbrev pub with_client : Parts → ℕ → Client → Parts
@@ -133,7 +162,7 @@ with_client v i c = record v { clients = slice_set v.clients i c }
 
 -- an event at the client at a place
 abbrev pub client_with : Parts → ℕ → Client → Taken → Made
-client_with v i c t = record { outcome = peer_answer c.number t.outcome; parts = with_client v i (record c { kept = t.kept; up = waiting_with c.up (packets_in t.outcome) server }) }
+client_with v i c t = record { outcome = peer_answer c.number t.outcome; parts = with_client (record v { put = put_with v.put (packets_in t.outcome) }) i (record c { kept = t.kept; up = waiting_with c.up (packets_in t.outcome) server }) }
 
 -- the client at a place takes an event
 abbrev pub client_made : Parts → ℕ → Client → Event → Made
@@ -184,6 +213,7 @@ rel_made v a b =
 -- any event that is built
 abbrev pub made : Parts → WorldEvent → Made
 made v Connect = connect_made v
+made v (Down p) = down_made v p
 made v (Op p op) = op_made v p op
 made v (Rel a b) = rel_made v a b
 made v e = unchanged v (answers.Done None [])

@@ -1,0 +1,14 @@
+pub mod Settings
+pub mod Events
+pub mod Lists
+pub mod Later
+pub mod Stepping
+pub mod Naming
+pub mod Shifts
+pub mod Sends
+pub mod Kept
+pub mod Replicas
+pub mod ToldRows
+pub mod Frames
+pub mod Apart
+pub mod Unseen

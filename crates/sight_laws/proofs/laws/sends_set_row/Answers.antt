@@ -1,0 +1,5 @@
+use Rattle.sight_laws.proofs.Sends.{sends_set_row}
+use Rattle.sight_laws.proofs.laws.sends_set_row.Goals as goal
+
+pub returns : goal.returns
+returns c = sends_set_row

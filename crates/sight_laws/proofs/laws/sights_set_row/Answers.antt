@@ -1,0 +1,5 @@
+use Rattle.sight_laws.proofs.Stepping.{sights_set_row}
+use Rattle.sight_laws.proofs.laws.sights_set_row.Goals as goal
+
+pub returns : goal.returns
+returns c = sights_set_row

@@ -1,0 +1,4 @@
+pub mod Sights
+pub mod Seen
+pub mod Told
+pub mod Laws
