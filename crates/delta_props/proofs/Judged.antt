@@ -39,10 +39,10 @@ not_long v h = sized (value_size v) h
     sized : (n : ℕ) → nat_le n 65536 ≡ true → nat_lt 65536 n ≡ false
     sized n h = grind (arith, nat_tests)
 
-named : List ℕ → Prop → Bool
+abbrev named : List ℕ → Prop → Bool
 named name x = text_eq x.name name
 
-place_in : List ℕ → Live → Option ℕ
+abbrev place_in : List ℕ → Live → Option ℕ
 place_in name n = position (named name) n.values
 
 -- an assignment by places is one by the property's name
@@ -67,11 +67,11 @@ cons_case (x ∷ xs) (suc i) = later ∙ ap (λ ys. x ∷ ys) (cons_case xs i)
 
 none_changes : {X : Type 0} (p : X → Bool) (f : X → X) (xs : List X) → find p xs ≡ None → change_first p f xs ≡ xs
 none_changes p f [] h = refl
-none_changes p f (x ∷ xs) h = step (p x) h
+none_changes p f (x ∷ xs) h = step (p x) (none_changes p f xs) h
   where
-    step : (b : Bool) → cond b (Some x) (find p xs) ≡ None → cond b (f x ∷ xs) (x ∷ change_first p f xs) ≡ x ∷ xs
-    step true k = absurd (cc k)
-    step false k = ap (λ ys. x ∷ ys) (none_changes p f xs k)
+    step : (b : Bool) → (find p xs ≡ None → change_first p f xs ≡ xs) → cond b (Some x) (find p xs) ≡ None → cond b (f x ∷ xs) (x ∷ change_first p f xs) ≡ x ∷ xs
+    step true more k = absurd (cc k)
+    step false more k = ap (λ ys. x ∷ ys) (more k)
 
 missing : (nodes : List Live) (place : ℕ) (name : List ℕ) (value : Variant) (o : Option Live) → slice_get nodes place ≡ o → option_and_then (place_in name) o ≡ None → nodes ≡ put_prop place name value nodes
 missing nodes place name value None e h = sym (ap (λ o. option_map_or (λ (n : Live). slice_set nodes place (record n { values = change_first (named name) (with_value value) n.values })) o nodes) e)
@@ -84,7 +84,7 @@ pub put_missing : (nodes : List Live) (place : ℕ) (p : Option SyncProp) (value
 put_missing nodes place None value h = refl
 put_missing nodes place (Some p) value h = missing nodes place p.prop value (slice_get nodes place) refl h
 
-reasons : ℕ → Variant → Option Live → Option TreeNo
+abbrev reasons : ℕ → Variant → Option Live → Option TreeNo
 reasons to value o = first_of (when (is_none o) NoNode ∷ when (some_is (λ (n : Live). nat_le (length n.values) to) o) NoProp ∷ when (is_long value) ValueTooLong ∷ [])
 
 no_reason : (to : ℕ) (name : List ℕ) (value : Variant) (o : Option Live) → option_and_then (place_in name) o ≡ Some to → fits value ≡ true → reasons to value o ≡ None

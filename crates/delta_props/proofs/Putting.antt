@@ -28,7 +28,7 @@ plus_one j = omega arith
 next_changes : (props : List SyncProp) (j : ℕ) → changes_in (drop j props) ≡ changes_in (cons_option (slice_get props j) (drop (j + 1) props))
 next_changes props j = ap changes_in (drop_next props j ∙ ap (λ k. cons_option (slice_get props j) (drop k props)) (plus_one j))
 
-on_change : SyncProp → Bool
+abbrev on_change : SyncProp → Bool
 on_change p = is_on_change p.mode
 
 off_next : (props : List SyncProp) (j : ℕ) (o : Option SyncProp) → slice_get props j ≡ o → some_is on_change o ≡ false → changes_in (drop j props) ≡ changes_in (drop (j + 1) props)
@@ -51,6 +51,13 @@ pub record IsPutting (old : TreeOf) (place mask : ℕ) (props : List SyncProp) (
   pub short : list_all fits values ≡ true
   pub scene : now.scene ≡ old.scene
   pub nodes : put_props place (zip (masked rest (changes_in (drop j props))) values) now.nodes ≡ put_props place (zip (masked mask (changes_in props)) all) old.nodes
+
+-- with equal parts it is the same
+pub putting_same : (old : TreeOf) (place mask : ℕ) (props : List SyncProp) (all : List Variant) (now : TreeOf) (j rest : ℕ) (values : List Variant) → IsPutting old place mask props all now j rest values
+    → (later : TreeOf) (left : ℕ) (others : List Variant) → later ≡ now → left ≡ rest → others ≡ values → IsPutting old place mask props all later j left others
+putting_same old place mask props all now j rest values p later left others tree number list =
+    subst (λ t. IsPutting old place mask props all t j left others) (sym tree)
+        (subst (λ n. IsPutting old place mask props all now j n others) (sym number) (subst (IsPutting old place mask props all now j rest) (sym list) p))
 
 pub putting_off : (old : TreeOf) (place mask : ℕ) (props : List SyncProp) (all : List Variant) (now : TreeOf) (j rest : ℕ) (values : List Variant) → IsPutting old place mask props all now j rest values
     → some_is on_change (slice_get props j) ≡ false → IsPutting old place mask props all now (j + 1) rest values
