@@ -28,7 +28,7 @@ plus_one j = omega arith
 next_changes : (props : List SyncProp) (j : ℕ) → changes_in (drop j props) ≡ changes_in (cons_option (slice_get props j) (drop (j + 1) props))
 next_changes props j = ap changes_in (drop_next props j ∙ ap (λ k. cons_option (slice_get props j) (drop k props)) (plus_one j))
 
-abbrev on_change : SyncProp → Bool
+abbrev pub on_change : SyncProp → Bool
 on_change p = is_on_change p.mode
 
 off_next : (props : List SyncProp) (j : ℕ) (o : Option SyncProp) → slice_get props j ≡ o → some_is on_change o ≡ false → changes_in (drop j props) ≡ changes_in (drop (j + 1) props)
