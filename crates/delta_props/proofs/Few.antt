@@ -1,5 +1,5 @@
 -- A synchronizer of a valid scene has at most 64 on-change properties.
-use Rattle.std.proofs.Common.{◌≡◌, ℕ, ◌≤◌, Bool, true, false, not, List, [], ◌∷◌, refl, sym, ap, ◌∙◌, length, filter, Option, Some, None, nat_lt, arith}
+use Rattle.std.proofs.Common.{◌≡◌, ℕ, ◌≤◌, Bool, true, false, not, List, [], refl, sym, ap, ◌∙◌, length, filter, Option, Some, None, nat_lt, arith}
 use Rattle.std.specs.Prelude.{slice_get, option_map, option_and_then}
 use Rattle.std.specs.List.{list_any, list_all}
 use Rattle.std.proofs.lemmas.Bool.{ltb-false}
@@ -19,7 +19,7 @@ use Rattle.headless_tree.proofs.Numbered.{all_at, none_at, unnot}
 use Rattle.peer_laws.proofs.Places.{all_found}
 use Rattle.peer_laws.proofs.Scenes.{all_right, nodes_right, right_node, scenes_right, right_def}
 use Rattle.peer_laws.proofs.Tests.{then_some}
-use Rattle.delta_props.specs.Telling.{fixed_sync, sync_at, sync_by, sync_named}
+use Rattle.delta_props.specs.Telling.{sync_at, sync_by, sync_named}
 
 abbrev is_many : SyncDef → Bool
 is_many d = nat_lt 64 (count_on_change d)

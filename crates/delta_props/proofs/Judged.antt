@@ -1,9 +1,9 @@
 -- Masks that are judged, and values that are assigned by their places.
-use Rattle.std.proofs.Common.{◌≡◌, ℕ, zero, suc, ◌+◌, ◌*◌, ◌^◌, ◌/◌, ◌<◌, ◌≤◌, inl, inr, ◌⊎◌, Bool, true, false, cond, not, ◌||◌, List, [], ◌∷◌, refl, sym, ap, ap₂, subst, ◌∙◌, length, nat_eq, nat_le, nat_lt, Option, Some, None, arith}
+use Rattle.std.proofs.Common.{◌≡◌, ℕ, zero, suc, ◌+◌, ◌*◌, ◌^◌, ◌/◌, inl, inr, Bool, true, false, cond, not, List, [], ◌∷◌, refl, sym, ap, ap₂, ◌∙◌, length, nat_eq, nat_le, nat_lt, Option, Some, None, arith}
 use Rattle.std.specs.Prelude.{slice_get, position, find, option_and_then, is_none}
 use Rattle.std.specs.List.{slice_set}
 use Rattle.std.specs.Option.{option_map_or}
-use Rattle.std.proofs.lemmas.Bool.{cases_lt, lt-leb, le-leb, lt-ltb, le-ltb, leb-true, ne_eqb}
+use Rattle.std.proofs.lemmas.Bool.{cases_lt, lt-leb, le-leb}
 use Rattle.std.proofs.lemmas.Bool.Decides.{nat_tests}
 use Rattle.std.proofs.lemmas.Grind.{pow_more}
 use Rattle.gd_variant.specs.Words.{text_eq, some_is, when, first_of}
@@ -50,7 +50,7 @@ found : (nodes : List Live) (place to : ℕ) (name : List ℕ) (value : Variant)
 found nodes place to name value None e h = absurd (let none : None ≡ Some to = h in cc none)
 found nodes place to name value (Some n) e h =
     change_same (λ (m : Live). record m { values = change_at to (with_value value) m.values }) (λ (m : Live). record m { values = change_first (named name) (with_value value) m.values }) nodes place n e
-        (ap (λ (vs : List Prop). record n { values = vs }) (ap (λ k. change_at k (with_value value) n.values) (sym (first_is (named name) n.values to h)) ∙ change_by_place (named name) (with_value value) n.values))
+    (ap (λ (vs : List Prop). record n { values = vs }) (ap (λ k. change_at k (with_value value) n.values) (sym (first_is (named name) n.values to h)) ∙ change_by_place (named name) (with_value value) n.values))
 
 pub put_found : (nodes : List Live) (place to : ℕ) (p : Option SyncProp) (value : Variant) → value_place nodes place p ≡ Some to → assigned_at place to value nodes ≡ put_where place p value nodes
 put_found nodes place to None value h = absurd (let none : None ≡ Some to = h in cc none)
@@ -77,7 +77,7 @@ missing : (nodes : List Live) (place : ℕ) (name : List ℕ) (value : Variant) 
 missing nodes place name value None e h = sym (ap (λ o. option_map_or (λ (n : Live). slice_set nodes place (record n { values = change_first (named name) (with_value value) n.values })) o nodes) e)
 missing nodes place name value (Some n) e h =
     sym (cons_case nodes place) ∙ change_same (λ (m : Live). m) (λ (m : Live). record m { values = change_first (named name) (with_value value) m.values }) nodes place n e
-        (ap (λ (vs : List Prop). record n { values = vs }) (sym (none_changes (named name) (with_value value) n.values (not_found (named name) n.values h))))
+    (ap (λ (vs : List Prop). record n { values = vs }) (sym (none_changes (named name) (with_value value) n.values (not_found (named name) n.values h))))
 
 -- nothing is assigned where there is no such property
 pub put_missing : (nodes : List Live) (place : ℕ) (p : Option SyncProp) (value : Variant) → value_place nodes place p ≡ None → nodes ≡ put_where place p value nodes

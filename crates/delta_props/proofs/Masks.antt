@@ -1,12 +1,11 @@
 -- On-change properties one after the other, and masks of those that differ.
-use Rattle.std.proofs.Common.{◌≡◌, ℕ, zero, suc, ◌+◌, ◌-◌, ◌*◌, ◌^◌, ◌/◌, ◌%◌, ◌<◌, ◌≤◌, Bool, true, false, cond, List, [], ◌∷◌, ◌++◌, refl, sym, ap, ap₂, subst, ◌∙◌, length, get_or, map, filter, take, drop, nat_eq, Option, arith}
+use Rattle.std.proofs.Common.{◌≡◌, ℕ, zero, suc, ◌+◌, ◌-◌, ◌*◌, ◌^◌, ◌<◌, ◌≤◌, Bool, true, false, cond, List, [], ◌∷◌, refl, sym, ap, ap₂, subst, ◌∙◌, length, get_or, map, filter, drop, Option, arith}
 use Rattle.std.specs.Prelude.{if◌then◌else◌}
 use Rattle.std.proofs.lemmas.List.{drop_more, drop_all}
 use Rattle.std.proofs.lemmas.Grind.{pow_more}
 use Rattle.gd_variant.specs.declared.value.Variant.{Variant}
 use Rattle.scene_model.specs.declared.scene.SyncProp.{SyncProp}
 use Rattle.scene_model.specs.Syncs.{is_on_change}
-use Rattle.peer_model.specs.Updates.{masked}
 use Rattle.peer_model.specs.Changes.{mask_of}
 use Rattle.delta_props.specs.Telling.{changes_in, bit_of, is_untold, untold}
 

@@ -1,5 +1,5 @@
 -- Fixed nodes by their places.
-use Rattle.std.proofs.Common.{◌≡◌, ℕ, Bool, List, sym, ap, ◌∙◌, Option, Some, None}
+use Rattle.std.proofs.Common.{◌≡◌, ℕ, Bool, List, sym, ap, ◌∙◌, Some, None}
 use Rattle.std.specs.Prelude.{position, find, slice_get}
 use Rattle.gd_variant.specs.Words.{text_eq}
 use Rattle.scene_model.specs.declared.scene.Scene.{Scene}

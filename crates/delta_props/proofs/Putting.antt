@@ -1,5 +1,5 @@
 -- The values of an entry are assigned one after the other.
-use Rattle.std.proofs.Common.{◌≡◌, ℕ, zero, suc, ◌+◌, ◌/◌, ◌%◌, ◌<◌, Bool, true, false, cond, List, [], ◌∷◌, refl, sym, ap, ap₂, subst, ◌∙◌, length, drop, map, filter, nat_eq, Option, Some, None, arith}
+use Rattle.std.proofs.Common.{◌≡◌, ℕ, zero, suc, ◌+◌, ◌/◌, ◌%◌, ◌<◌, Bool, true, false, List, [], ◌∷◌, refl, sym, ap, ap₂, subst, ◌∙◌, length, drop, nat_eq, Option, Some, None, arith}
 use Rattle.std.specs.Prelude.{slice_get, zip, remove, if◌then◌else◌}
 use Rattle.std.specs.List.{list_all, cons_option}
 use Rattle.std.proofs.lemmas.Bool.{true≢false}
@@ -57,7 +57,7 @@ pub putting_same : (old : TreeOf) (place mask : ℕ) (props : List SyncProp) (al
     → (later : TreeOf) (left : ℕ) (others : List Variant) → later ≡ now → left ≡ rest → others ≡ values → IsPutting old place mask props all later j left others
 putting_same old place mask props all now j rest values p later left others tree number list =
     subst (λ t. IsPutting old place mask props all t j left others) (sym tree)
-        (subst (λ n. IsPutting old place mask props all now j n others) (sym number) (subst (IsPutting old place mask props all now j rest) (sym list) p))
+    (subst (λ n. IsPutting old place mask props all now j n others) (sym number) (subst (IsPutting old place mask props all now j rest) (sym list) p))
 
 pub putting_off : (old : TreeOf) (place mask : ℕ) (props : List SyncProp) (all : List Variant) (now : TreeOf) (j rest : ℕ) (values : List Variant) → IsPutting old place mask props all now j rest values
     → some_is on_change (slice_get props j) ≡ false → IsPutting old place mask props all now (j + 1) rest values

@@ -1,5 +1,5 @@
 -- A received Delta entry: which synchronizer it means, why it is a fault, and what it makes of the nodes.
-use Rattle.std.specs.Prelude.{ℕ, ◌-◌, ◌/◌, zero, suc, ℤ, Bool, true, false, List, [], ◌∷◌, zip, position, slice_get, nat_eq, Option, Some, None, option_and_then, Result, Ok, Err, if◌then◌else◌}
+use Rattle.std.specs.Prelude.{ℕ, ◌-◌, ◌/◌, ℤ, List, [], ◌∷◌, zip, position, slice_get, nat_eq, Option, Some, None, option_and_then, Result, Ok, Err, if◌then◌else◌}
 use Rattle.std.specs.Ordering.{int_eq}
 use Rattle.gd_variant.specs.Words.{text_eq, when, first_of}
 use Rattle.gd_variant.specs.declared.value.Variant.{Variant}
@@ -40,6 +40,7 @@ fixed_meant s c id = by_node (fixed_node_at s (id - fixed_bit))
     by_sync : Node → Option SyncDef → Result Meant Fault
     by_sync n None = Err (fault.NoName id)
     by_sync n (Some d) = if int_eq n.auth c then Ok (record { at = Fixed (id - fixed_bit - 1); place = target_of s d }) else Err fault.NotAuthority
+
     by_node : Option Node → Result Meant Fault
     by_node None = Err (fault.NoName id)
     by_node (Some n) = by_sync n (sync_of n)
@@ -56,6 +57,7 @@ row_sync s id i (Some n) = by_place n.place
         by_def : Option SyncDef → Result Meant Fault
         by_def None = Err (fault.NoSync id)
         by_def (Some d) = Ok (record { at = Row place k; place = Some i })
+
     by_place : Option ℕ → Result Meant Fault
     by_place None = Err (fault.NoSync id)
     by_place (Some place) = by_number place (position (nat_eq id) n.ids)

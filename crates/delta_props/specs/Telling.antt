@@ -106,4 +106,4 @@ abbrev pub collected : ℤ → Scene → List Live → List SyncRef → ToldValu
 collected b s nodes [] t = ([], t)
 collected b s nodes (x ∷ xs) t =
     with_first (told_sync b x.id (sync_named s nodes x.path x.k) t).0
-        (collected b s nodes xs (told_sync b x.id (sync_named s nodes x.path x.k) t).1)
+    (collected b s nodes xs (told_sync b x.id (sync_named s nodes x.path x.k) t).1)

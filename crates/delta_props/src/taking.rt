@@ -307,7 +307,11 @@ fn put_entry(tree: &mut Tree, meant: Meant, entry: DeltaEntry)
     requires { def_judged entry (def_at_of tree.old.scene meant.at) ≡ None }
     ensures { tree.new ≡ record tree.old { nodes = entry_put entry (def_at_of tree.old.scene meant.at) meant.place tree.old.nodes } }
 {
-    let DeltaEntry { id: _, mask, values } = entry;
+    let DeltaEntry {
+        id: _,
+        mask,
+        values,
+    } = entry;
     match meant.place {
         Some(place) => put_values(tree, place, meant.at, mask, values),
         None => {}

@@ -1,4 +1,4 @@
-use Rattle.std.proofs.Common.{◌≡◌, ◌||◌, ap, cond, false, not, nat_eq, nat_le, sym, ◌∙◌, ◌^◌, length}
+use Rattle.std.proofs.Common.{◌≡◌, ◌||◌, ap, false, not, nat_eq, nat_le, sym, ◌∙◌, ◌^◌, length}
 use Rattle.std.proofs.lemmas.Bool.{ne_eqb}
 use Rattle.scene_model.specs.Syncs.{change_props}
 use Rattle.delta_props.proofs.Judged.{halved_is}

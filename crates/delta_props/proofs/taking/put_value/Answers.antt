@@ -8,7 +8,7 @@ use Rattle.delta_props.proofs.taking.put_value.Goals as goal
 pub returns-in-Ok : goal.returns-in-Ok
 returns-in-Ok c =
     c.in-Ok.ensures.1 ∙ ap {B = TreeOf} (λ (ns : List Live). record { scene = c.args.tree.now.scene; nodes = ns })
-        (put_found c.args.tree.now.nodes c.args.place c.in-Some.to (prop_at c.args.tree.now.scene c.args.at c.args.j) c.args.value (sym c.in-Some.ensures))
+    (put_found c.args.tree.now.nodes c.args.place c.in-Some.to (prop_at c.args.tree.now.scene c.args.at c.args.j) c.args.value (sym c.in-Some.ensures))
 
 pub returns-in-None : goal.returns-in-None
 returns-in-None c =

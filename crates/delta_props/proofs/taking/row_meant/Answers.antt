@@ -1,4 +1,4 @@
-use Rattle.std.proofs.Common.{◌≡◌, ap, sym, ◌∙◌, w32, Option, Some, None, rules}
+use Rattle.std.proofs.Common.{◌≡◌, ap, ◌∙◌, w32, Some, None, rules}
 use Rattle.std.specs.Prelude.{position}
 use Rattle.std.proofs.lemmas.Int.{to_z-of_z}
 use Rattle.headless_tree.specs.Numbers.{has_number}

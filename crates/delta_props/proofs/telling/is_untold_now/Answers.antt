@@ -12,5 +12,5 @@ use Rattle.delta_props.proofs.telling.is_untold_now.Goals as goal
 pub returns-in-Some : goal.returns-in-Some
 returns-in-Some c =
     let here : c.in-Some.now.now ≡ value_of (live c.args.node.now) c.args.prop.now =
-        ap (λ (o : Option Variant). or_else o Nil) (sym (ap option_copied c.in-Some.is) ∙ c.get.ensures ∙ ap (value_in (live c.args.node.now).values) c.as_str.ensures.same) in
+    ap (λ (o : Option Variant). or_else o Nil) (sym (ap option_copied c.in-Some.is) ∙ c.get.ensures ∙ ap (value_in (live c.args.node.now).values) c.as_str.ensures.same) in
     c.differs.ensures ∙ ap₂ (λ (v : Variant) (o : Option Variant). not (some_is (same_value v) o)) here c.told_at.ensures

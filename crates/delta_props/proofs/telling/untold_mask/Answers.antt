@@ -1,4 +1,4 @@
-use Rattle.std.proofs.Common.{◌≡◌, ◌+◌, ◌-◌, ◌*◌, ◌<◌, ◌≤◌, sym, ap, subst, ◌∙◌, true, arith}
+use Rattle.std.proofs.Common.{◌≡◌, ◌+◌, ◌-◌, ◌*◌, ◌<◌, sym, ap, subst, ◌∙◌, true, arith}
 use Rattle.std.specs.Option.{option_copied}
 use Rattle.headless_tree.specs.Nodes.{live}
 use Rattle.scene_model.specs.Syncs.{is_on_change}
@@ -15,7 +15,7 @@ loop-place-preserved-then-is_on_change c =
     let on : is_on_change c.index-props-place.result.mode ≡ true = sym c.is_on_change.ensures ∙ c.if-is_on_change.true in
     let one = masking_place _ _ c.args.props.now c.args.count c.loop-place.place c.loop-place.at c.loop-place.mask c.index-props-place.result c.loop-place.invariant c.requires.count some c.index-props-place.is on in
     subst (λ k. IsMasking (value_of (live c.args.node.now)) (option_copied c.args.told) c.args.props.now c.args.count (c.loop-place.place - 1) (c.loop-place.at - 1) (k + 2 * c.loop-place.mask)) (sym (c.bit.ensures ∙ ap bit_of c.is_untold_now.ensures))
-        (masking_on (value_of (live c.args.node.now)) (option_copied c.args.told) c.args.props.now c.args.count c.loop-place.place c.loop-place.at c.loop-place.mask c.index-props-place.result c.loop-place.invariant some one c.index-props-place.is on)
+    (masking_on (value_of (live c.args.node.now)) (option_copied c.args.told) c.args.props.now c.args.count c.loop-place.place c.loop-place.at c.loop-place.mask c.index-props-place.result c.loop-place.invariant some one c.index-props-place.is on)
 
 pub overflow_add-mask : goal.overflow_add-mask
 overflow_add-mask c =

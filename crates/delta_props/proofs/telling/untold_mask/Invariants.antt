@@ -1,4 +1,3 @@
-use Rattle.std.proofs.Common.{ℕ}
 use Rattle.std.specs.Option.{option_copied}
 use Rattle.headless_tree.specs.Nodes.{live}
 use Rattle.delta_props.specs.Telling.{value_of}
