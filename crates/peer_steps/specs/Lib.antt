@@ -7,6 +7,7 @@ pub mod Sites
 pub mod Arrivals
 pub mod Peers
 pub mod Track
+pub mod Tellings
 pub mod Fits
 pub mod Kept
 pub mod Judged

@@ -1,7 +1,8 @@
 -- Values that come with an event are sound.
-use Rattle.std.specs.Prelude.{Bool, true, ◌&&◌, Option, Some}
+use Rattle.std.specs.Prelude.{Bool, true, ◌&&◌, List, Option, Some}
 use Rattle.std.specs.List.{list_all}
 use Rattle.gd_variant.specs.Sound.{is_sound}
+use Rattle.gd_variant.specs.declared.message.DeltaEntry.{DeltaEntry}
 use Rattle.gd_variant.specs.declared.message.Message.{Message}
 use Rattle.scene_model.specs.declared.spawn.SpawnMsg.{SpawnMsg}
 use Rattle.scene_model.specs.declared.scene.Prop.{Prop}
@@ -10,7 +11,7 @@ use Rattle.scene_model.specs.declared.event.Op.TheVariants.{Spawn, Custom, Set}
 use Rattle.peer_steps.specs.Arguments.{is_sound_argument}
 use Rattle.scene_model.specs.declared.event.Event.{Event}
 use Rattle.scene_model.specs.declared.event.Event.TheVariants.{Op as Operation}
-use Rattle.peer_steps.specs.Steps.{RowNews, appears, row_read}
+use Rattle.peer_steps.specs.Steps.{RowNews, appears, changes, row_read}
 
 -- whether the values of an operation are sound
 abbrev pub is_sound_op : Op → Bool
@@ -28,11 +29,16 @@ is_sound_event e = true
 abbrev pub is_sound_spawn : SpawnMsg → Bool
 is_sound_spawn m = is_sound_argument m.arg && list_all is_sound m.values
 
--- the same, where a row appears
+-- whether the values of entries are sound
+abbrev pub are_sound_entries : List DeltaEntry → Bool
+are_sound_entries ts = list_all (λ (t : DeltaEntry). list_all is_sound t.values) ts
+
+-- the same, where a row appears or values change
 abbrev pub is_sound_read : Option RowNews → Bool
 is_sound_read (Some (appears m)) = is_sound_spawn m
+is_sound_read (Some (changes ts)) = are_sound_entries ts
 is_sound_read n = true
 
--- whether the values of a message are sound, where it is a spawn
+-- whether the values of a message are sound, where it is a spawn or changes values
 abbrev pub is_sound_message : Message → Bool
 is_sound_message m = is_sound_read (row_read m)

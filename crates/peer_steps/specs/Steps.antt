@@ -1,7 +1,8 @@
 -- What a peer answers to an event, and what it keeps then.
-use Rattle.std.specs.Prelude.{◌≡◌, ℕ, ℤ, Bool, true, false, List, [], ◌∷◌, map, flat_map, Option, Some, None, Result, Ok, Err, if◌then◌else◌}
-use Rattle.gd_variant.specs.Words.{or_else, has_int}
+use Rattle.std.specs.Prelude.{◌≡◌, ℕ, ℤ, Bool, true, false, List, [], ◌∷◌, ◌++◌, map, flat_map, Option, Some, None, Result, Ok, Err, if◌then◌else◌}
+use Rattle.gd_variant.specs.Words.{or_else, has_int, first_of}
 use Rattle.gd_variant.specs.declared.value.Variant.{Variant}
+use Rattle.gd_variant.specs.declared.message.DeltaEntry.{DeltaEntry}
 use Rattle.gd_variant.specs.declared.message.Plain.{Plain}
 use Rattle.gd_variant.specs.declared.message.Plain.TheVariants as packet
 use Rattle.gd_variant.specs.declared.message.Message.{Message}
@@ -13,7 +14,7 @@ use Rattle.scene_model.specs.declared.event.SpawnOp.{SpawnOp}
 use Rattle.scene_model.specs.declared.event.Event.{Event}
 use Rattle.scene_model.specs.declared.event.Event.TheVariants.{Op, Up, Down, Received}
 use Rattle.scene_model.specs.declared.event.Op.{Op as Operation}
-use Rattle.scene_model.specs.declared.event.Op.TheVariants.{Spawn, Custom, Despawn, Set, Public, For, Filter}
+use Rattle.scene_model.specs.declared.event.Op.TheVariants.{Spawn, Custom, Despawn, Set, Public, For, Filter, Frame}
 use Rattle.scene_model.specs.declared.event.Class.TheVariants.{Reliable}
 use Rattle.scene_model.specs.declared.outcome.Outcome.{Outcome}
 use Rattle.scene_model.specs.declared.outcome.Outcome.TheVariants.{Done, Refused, Fault}
@@ -33,6 +34,9 @@ use Rattle.peer_steps.specs.declared.rows.SpawnedRow.{SpawnedRow}
 use Rattle.peer_steps.specs.Sites.{own_made}
 use Rattle.peer_steps.specs.Peers.{Peers, peer_comes, peer_goes}
 use Rattle.peer_steps.specs.Track.{Track, Spawned, Despawned, Sighted, SightChange, own_spawn, own_despawn, own_sighted, shown_spawn, hidden_row, seen_by, shown_of, track_up, track_down, row_with, number_at, is_row}
+use Rattle.delta_props.specs.Telling.{ToldValues, without_peer}
+use Rattle.delta_props.specs.Taking.{delta_judged, delta_taken}
+use Rattle.peer_steps.specs.Tellings.{told_up, shown_to_all, hidden_from_all, ids_with, told_shifts, frame_to}
 use Rattle.peer_steps.specs.Kept.{Kept, kept_tree}
 use Rattle.peer_steps.specs.Judged.{lacks_server, set_judged, set_nodes, link_judged}
 
@@ -71,17 +75,30 @@ abbrev pub track_came : Option Refusal → ℤ → Track → Track
 track_came (Some r) b t = t
 track_came None b t = track_up b t
 
+-- what was told after it
+abbrev pub told_came : Option Refusal → ℤ → Kept → ToldValues
+told_came (Some r) b k = k.told
+told_came None b k = told_up k.who k.nodes b (seen_by b k.track.rows k.track.sights.rows) k.told
+
 -- a link that comes up, by what becomes of the peers
 abbrev pub up_taken : PacketForm → Kept → ℤ → Option Refusal × Peers → Taken
-up_taken form k b ps = record { outcome = up_answer form k b ps.0; kept = record k { peers = ps.1; track = track_came ps.0 b k.track } }
+up_taken form k b ps = record { outcome = up_answer form k b ps.0; kept = record k { peers = ps.1; track = track_came ps.0 b k.track; told = told_came ps.0 b k } }
 
 -- what is answered to a link that goes down, by whether it was up
 abbrev pub down_answer : Bool → Outcome
 down_answer was_up = if was_up then done_with [] else Refused NoPeer
 
--- a link that goes down, by what becomes of the peers: the rows of its peer are gone
+-- a link that goes down, by what becomes of the peers: the rows of its peer are gone, and nothing counts as told to it
 abbrev pub down_taken : Kept → ℤ → Bool × Peers → Taken
-down_taken k b ps = record { outcome = down_answer ps.0; kept = record k { peers = ps.1; nodes = if ps.0 then without_rows b k.nodes else k.nodes; track = if ps.0 then track_down b k.track else k.track } }
+down_taken k b ps = record {
+  outcome = down_answer ps.0;
+  kept = record k {
+    peers = ps.1;
+    nodes = if ps.0 then without_rows b k.nodes else k.nodes;
+    track = if ps.0 then track_down b k.track else k.track;
+    told = if ps.0 then without_peer b k.told else k.told;
+  };
+}
 
 -- what is kept after a spawn
 abbrev pub with_spawned : Kept → Spawned → Kept
@@ -100,9 +117,14 @@ spawn_answer form k row None = done_with (shows_of form k row)
 abbrev pub row_made : Kept → SpawnOp → SpawnedRow
 row_made k o = own_made k.who.id k.who.scene k.track.next o
 
+-- what was told after a spawn that made this row
+abbrev pub spawn_told : Kept → SpawnedRow → Option Refusal → ToldValues
+spawn_told k row (Some r) = k.told
+spawn_told k row None = shown_to_all k.who.scene k.nodes row (shown_of row.num k.track.sights) k.told
+
 -- a spawn, by what becomes of the own rows and the nodes
 abbrev pub spawn_taken : PacketForm → Kept → SpawnOp → Spawned → Taken
-spawn_taken form k o s = record { outcome = spawn_answer form (with_spawned k s) (row_made k o) s.refused; kept = with_spawned k s }
+spawn_taken form k o s = record { outcome = spawn_answer form (with_spawned k s) (row_made k o) s.refused; kept = record (with_spawned k s) { told = spawn_told (with_spawned k s) (row_made k o) s.refused } }
 
 -- a refusal, or packets
 abbrev pub answer_by : Option Refusal → List Out → Outcome
@@ -124,7 +146,7 @@ despawn_answer form d = answer_by d.refused (map (λ b. sent_to form b (packet.D
 
 -- a despawn, by what becomes of the own rows and the nodes
 abbrev pub despawn_taken : PacketForm → Kept → Despawned → Taken
-despawn_taken form k d = record { outcome = despawn_answer form d; kept = record k { nodes = d.tree.nodes; track = d.track } }
+despawn_taken form k d = record { outcome = despawn_answer form d; kept = record k { nodes = d.tree.nodes; track = d.track; told = hidden_from_all (ids_with d.num k.track.rows) d.shown k.told } }
 
 -- public or not
 abbrev pub public_change : Bool → SightChange
@@ -158,9 +180,41 @@ row_shifts form k v (Some r) = shifts form (row_packet k.who.scene k.nodes r) r.
 abbrev pub sight_shifts : PacketForm → Kept → List ℕ → Sights → List Out
 sight_shifts form k path v = if is_row (live_at k.nodes path) then row_shifts form k v (row_with (number_at k.nodes path) k.track.rows) else []
 
+-- what was told of an own row after a setting, by who sees the own rows then
+abbrev pub row_told : Kept → Sights → Option SpawnedRow → ToldValues
+row_told k v None = k.told
+row_told k v (Some r) = told_shifts k.who.scene k.nodes r (shown_of r.num k.track.sights) (shown_of r.num v) k.peers.up k.told
+
+-- what was told after a setting at the node at a path, unless it is refused
+abbrev pub sight_told : Kept → List ℕ → Sights → Option Refusal → ToldValues
+sight_told k path v (Some r) = k.told
+sight_told k path v None = if is_row (live_at k.nodes path) then row_told k v (row_with (number_at k.nodes path) k.track.rows) else k.told
+
 -- a setting of visibility, by what becomes of who sees the own rows
 abbrev pub sight_taken : PacketForm → Kept → List ℕ → Sighted → Taken
-sight_taken form k path s = record { outcome = answer_by s.refused (sight_shifts form k path s.track.sights); kept = record k { track = s.track } }
+sight_taken form k path s = record { outcome = answer_by s.refused (sight_shifts form k path s.track.sights); kept = record k { track = s.track; told = sight_told k path s.track.sights s.refused } }
+
+-- the packets of entries, one each
+abbrev pub entries_to : PacketForm → ℤ → List DeltaEntry → List Out
+entries_to form b entries = map (λ e. sent_to form b (packet.Delta (e ∷ []))) entries
+
+-- packets before others, and what was told
+abbrev pub with_packets : List Out → List Out × ToldValues → List Out × ToldValues
+with_packets packets r = (packets ++ r.0, r.1)
+
+-- what a frame tells some peers in order, and what was told then
+abbrev pub frame_told : PacketForm → Kept → List ℤ → ToldValues → List Out × ToldValues
+frame_told form k [] t = ([], t)
+frame_told form k (b ∷ bs) t =
+    with_packets (entries_to form b (frame_to k.who.scene k.nodes k.track b t).0) (frame_told form k bs (frame_to k.who.scene k.nodes k.track b t).1)
+
+-- a frame, by what it tells the peers that are up
+abbrev pub frame_by : Kept → List Out × ToldValues → Taken
+frame_by k r = record { outcome = done_with r.0; kept = record k { told = r.1 } }
+
+-- a frame
+abbrev pub frame_taken : PacketForm → Kept → Taken
+frame_taken form k = frame_by k (frame_told form k k.peers.up k.told)
 
 -- an operation; the others aren't built
 abbrev pub op_taken : PacketForm → Kept → Operation → Taken
@@ -171,33 +225,55 @@ op_taken form k (Public path n on) = sight_taken form k path (own_sighted k.who.
 op_taken form k (For path n peer on) = sight_taken form k path (own_sighted k.who.id k.peers.up path n (for_change peer on) k.track (kept_tree k))
 op_taken form k (Filter path n peers) = sight_taken form k path (own_sighted k.who.id k.peers.up path n (filter_change peers) k.track (kept_tree k))
 op_taken form k (Set path prop value) = set_taken k path prop value (set_judged k.who k.nodes path prop value)
+op_taken form k Frame = frame_taken form k
 op_taken form k op = unchanged k (Refused NotBuilt)
 
--- what is answered to a received spawn or despawn
+-- what is answered to a received packet of a row or of values
 abbrev pub shown_answer : Option FaultOf → Outcome
 shown_answer (Some f) = Fault f
 shown_answer None = done_with []
 
--- a received spawn or despawn, by what becomes of the nodes
+-- a received packet, by what becomes of the nodes
 abbrev pub shown_taken : Kept → Option FaultOf × TreeOf → Taken
 shown_taken k t = record { outcome = shown_answer t.0; kept = record k { nodes = t.1.nodes } }
 
--- what a message says of a row
+-- what a message says of a row, or of values of some synchronizers
 pub data RowNews : Type 0 where
   appears : SpawnMsg → RowNews
   disappears : ℕ → RowNews
+  changes : List DeltaEntry → RowNews
 
 -- the news of a row that a message is
 abbrev pub row_read : Message → Option RowNews
 row_read (plain_packet (packet.Spawn scene spawner net syncs name arg values)) = Some (appears (record { scene = scene; spawner = spawner; net = net; syncs = syncs; name = name; arg = arg; values = values }))
 row_read (plain_packet (packet.Despawn net)) = Some (disappears net)
+row_read (plain_packet (packet.Delta entries)) = Some (changes entries)
 row_read m = None
+
+-- why one of some received entries is a fault, the first
+abbrev pub entries_judged : TreeOf → ℤ → List DeltaEntry → Option FaultOf
+entries_judged tree c ts = first_of (map (delta_judged tree.scene tree.nodes c) ts)
+
+-- the tree after entries in order
+abbrev pub entries_put : ℤ → List DeltaEntry → TreeOf → TreeOf
+entries_put c [] tree = tree
+entries_put c (t ∷ ts) tree = entries_put c ts (delta_taken c t tree).1
+
+-- received entries, by why one is a fault: a fault puts none of them
+abbrev pub entries_by : ℤ → List DeltaEntry → TreeOf → Option FaultOf → Option FaultOf × TreeOf
+entries_by c ts tree (Some f) = (Some f, tree)
+entries_by c ts tree None = (None, entries_put c ts tree)
+
+-- entries that were received from a peer: why one is a fault, and the tree then
+abbrev pub entries_taken : ℤ → List DeltaEntry → TreeOf → Option FaultOf × TreeOf
+entries_taken c ts tree = entries_by c ts tree (entries_judged tree c ts)
 
 -- a message from a link that is up
 abbrev pub message_taken : Kept → ℤ → Option RowNews → Taken
 message_taken k from None = unchanged k (Fault fault.NotBuilt)
 message_taken k from (Some (appears m)) = shown_taken k (shown_spawn from m (kept_tree k))
 message_taken k from (Some (disappears net)) = shown_taken k (hidden_row from net (kept_tree k))
+message_taken k from (Some (changes ts)) = shown_taken k (entries_taken from ts (kept_tree k))
 
 -- a message, by whether its link is up
 abbrev pub linked_taken : Kept → ℤ → Message → Option FaultOf → Taken
