@@ -8,5 +8,6 @@ mod taking;
 mod telling;
 mod told;
 
+pub use finding::is_on_change;
 pub use taking::{judge, take};
 pub use told::Told;

@@ -9,12 +9,13 @@ mod naming;
 mod numbers;
 mod placing;
 mod receiving;
+mod seeing;
 mod shown;
 mod spawning;
 mod track;
 mod values;
 
-pub use lookup::{path_id, syncs_of};
+pub use lookup::{fixed_node, path_id, spawner_at, syncs_of};
 pub use making::copy_argument;
 pub use placing::put_value;
 pub use track::{Gone, Track};

@@ -3,9 +3,11 @@ ghost use Rattle.std.specs.Prelude.{◌≡◌, ◌<◌, ◌+◌, Some, IfSome, l
 ghost use Rattle.std.specs.Option.{option_copied};
 ghost use Rattle.gd_variant.specs.Words.{or_else};
 ghost use Rattle.scene_model.specs.Lookup.{fixed_node as fixed_node_of, fixed_path_id, scene_place as scene_place_of, spawner_at as spawner_at_of, spawner_of as spawner_in};
+ghost use Rattle.scene_model.specs.Syncs.{sync_id};
 ghost use Rattle.scene_model.specs.Valid.{IsValidScene};
 ghost use Rattle.peer_model.specs.Rows.{syncs_at};
 
+use crate::shown::FIXED_BIT;
 use gd_variant::Text;
 use headless_tree::Tree;
 use scene_model::{Node, Role, Scene, SpawnerDef, SyncDef};
@@ -19,6 +21,17 @@ pub fn path_id(tree: &Tree, path: &Text) -> u32
     match tree.fixed_place(path.as_str()) {
         Some(place) => place as u32 + 1,
         None => 0,
+    }
+}
+
+/// The number by which packets name the fixed synchronizer at a path: bit 31, and its path id.
+pub fn fixed_id(tree: &Tree, path: &Text) -> u32
+    requires { IsValidScene tree.now.scene }
+    ensures { result ≡ sync_id (or_else (fixed_path_id tree.now.scene path.now) 0) }
+{
+    match tree.fixed_place(path.as_str()) {
+        Some(place) => FIXED_BIT + (place as u32 + 1),
+        None => FIXED_BIT,
     }
 }
 

@@ -27,7 +27,7 @@ use sqlite_items::{Items, at as item_at};
 use std::alloc::Global;
 
 /// The numbers of rows are below this one, and those of fixed synchronizers aren't.
-const FIXED_BIT: u32 = 2147483648;
+pub const FIXED_BIT: u32 = 2147483648;
 
 /// The fixed node with a path id, its place from 1.
 fn fixed_node(scene: &Scene, id: u32) -> Option<&Node>

@@ -12,6 +12,8 @@ ghost use Rattle.peer_model.specs.Updates.{live_at};
 ghost use Rattle.peer_steps.specs.Judged.{sight_judged};
 ghost use Rattle.peer_steps.specs.Sites.{who_at};
 ghost use Rattle.peer_steps.specs.Track.{first_track, own_despawn, own_sighted, own_spawn, hidden_row, number_at as number_of, shown_of, shown_spawn, sight_at, sights_set, track_down, track_up, track_without, tree_without};
+ghost use Rattle.peer_steps.specs.Rights.{is_right_row};
+ghost use Rattle.peer_steps.specs.Tellings.{syncs_seen as syncs_seen_of};
 ghost use Rattle.sight_laws.specs.Sights.{RowSight as RowSightOf, row_sees};
 ghost use Rattle.spawn_track.specs.Judging.{IsDespawned};
 ghost use Rattle.spawn_track.specs.Numbers.{IsTracked, row_at as row_at_of};
@@ -23,10 +25,11 @@ use crate::naming::judge_named;
 use crate::numbers::{drop_row, row_among};
 use crate::placing::drop_rows;
 use crate::receiving::{put_spawn, take_row};
+use crate::seeing::seen_syncs;
 use gd_variant::{OutOfMemory, Text};
 use headless_tree::Tree;
 use peer_steps::SpawnedRow;
-use scene_model::{Fault, Refusal, Scene, SpawnMsg, SpawnOp};
+use scene_model::{Fault, Refusal, Scene, SpawnMsg, SpawnOp, SyncRefs};
 use std::alloc::Global;
 use std::marker::Model;
 use visibility::{Sights, Vis, VisSetting};
@@ -242,6 +245,21 @@ impl Track {
         ensures { result ≡ some_is (λ (v : RowSightOf). row_sees v peer.now) (slice_get self.now.sights.rows place) }
     {
         self.sights.sees(place, peer)
+    }
+
+    /// The synchronizers of this peer that another may see: the fixed ones in the order of the scene,
+    /// then those of the rows, oldest first.
+    pub fn syncs_seen(
+        &self,
+        alloc: Global,
+        tree: &Tree,
+        peer: &i32,
+    ) -> Result<SyncRefs, OutOfMemory>
+        requires valid { IsValidScene tree.now.scene }
+        requires rows { list_all (is_right_row tree.now.scene) self.now.rows ≡ true }
+        ensures { IfOk result (λ syncs. syncs ≡ syncs_seen_of peer.now tree.now.scene self.now) }
+    {
+        seen_syncs(alloc, tree, &self.sights, self.rows.as_slice(), peer)
     }
 
     /// The peers to which the row of a number is shown, in rising order.

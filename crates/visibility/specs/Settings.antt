@@ -5,7 +5,7 @@ use Rattle.gd_variant.specs.Words.{text_eq}
 use Rattle.scene_model.specs.declared.scene.Node.{Node}
 use Rattle.scene_model.specs.declared.scene.SyncDef.{SyncDef}
 use Rattle.scene_model.specs.Lookup.{sync_of}
-use Rattle.sight_laws.specs.Sights.{Setting, Sight, FixedSight, first_sight}
+use Rattle.sight_laws.specs.Sights.{Setting, Sight, FixedSight, first_sight, is_visible}
 use Rattle.peer_steps.specs.Track.{SightChange}
 use Rattle.peer_steps.specs.Steps.{public_change, for_change, filter_change}
 use Rattle.visibility.specs.declared.setting.VisSetting.{VisSetting}
@@ -40,3 +40,8 @@ fixed_from me n = kept (int_eq n.auth me) (sync_of n)
     kept : Bool → Option SyncDef → List FixedSight
     kept true (Some d) = record { path = n.path; sight = first_sight d } ∷ []
     kept b o = []
+
+-- the path of a fixed synchronizer that a peer may see
+abbrev pub path_seen : ℤ → Option FixedSight → Option (List ℕ)
+path_seen b None = None
+path_seen b (Some x) = if is_visible x.sight b then Some x.path else None

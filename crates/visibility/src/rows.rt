@@ -2,7 +2,8 @@
 ghost use Rattle.std.specs.Prelude.{◌≡◌, ◌++◌, map, filter, slice_get, IfOk, OnOk};
 ghost use Rattle.std.specs.List.{list_any};
 ghost use Rattle.std.specs.Option.{option_copied};
-ghost use Rattle.sight_laws.specs.Sights.{any_sees as any_sees_of, change_at, first_sight, hidden_from, is_visible, new_sight, row_sees, row_set, shown_again, shown_to_new};
+ghost use Rattle.gd_variant.specs.Words.{some_is};
+ghost use Rattle.sight_laws.specs.Sights.{Sight as SightOf, any_sees as any_sees_of, change_at, first_sight, hidden_from, is_visible, new_sight, row_sees, row_set, shown_again, shown_to_new};
 ghost use Rattle.visibility.specs.Settings.{change_of};
 
 use crate::setting::VisSetting;
@@ -70,6 +71,16 @@ pub fn vis_in(row: &RowVis, k: u32) -> Option<&Vis>
     ensures { option_copied result ≡ slice_get row.now.syncs k }
 {
     item_at(row.syncs.as_slice(), k as usize)
+}
+
+/// Whether a peer may see the synchronizer at a place of a row.
+pub fn sees_at(row: &RowVis, k: usize, peer: &i32) -> bool
+    ensures { result ≡ some_is (λ (y : SightOf). is_visible y peer.now) (slice_get row.now.syncs k) }
+{
+    match item_at(row.syncs.as_slice(), k) {
+        Some(vis) => vis.is_visible(peer),
+        None => false,
+    }
 }
 
 fn any_visible(syncs: &[Vis], peer: &i32) -> bool

@@ -3,12 +3,12 @@ ghost use Rattle.std.specs.Prelude.{◌≡◌, ◌<◌, ◌≤◌, ◌++◌, tru
 ghost use Rattle.std.specs.List.{prefix_len};
 ghost use Rattle.std.specs.Option.{option_copied};
 ghost use Rattle.gd_variant.specs.Words.{some_is, text_eq};
-ghost use Rattle.sight_laws.specs.Sights.{FixedSight as FixedSightOf, RowSight as RowSightOf, first_sights, with_row, without_row, with_row_set, with_fixed_set, with_peer_up, with_peer_down, row_sees, shown_to_new, hidden_from};
+ghost use Rattle.sight_laws.specs.Sights.{FixedSight as FixedSightOf, RowSight as RowSightOf, Sight as SightOf, is_visible, first_sights, with_row, without_row, with_row_set, with_fixed_set, with_peer_up, with_peer_down, row_sees, shown_to_new, hidden_from};
 ghost use Rattle.peer_steps.specs.Track.{shown_of, row_sight_at, fixed_sight_at};
 ghost use Rattle.visibility.specs.Rising.{rise_by_number};
-ghost use Rattle.visibility.specs.Settings.{change_of, fixed_from, fixed_set};
+ghost use Rattle.visibility.specs.Settings.{change_of, fixed_from, fixed_set, path_seen};
 
-use crate::rows::{FixedVis, RowVis, new_row, shown_in, shown_to, vis_in};
+use crate::rows::{FixedVis, RowVis, new_row, sees_at, shown_in, shown_to, vis_in};
 use crate::setting::VisSetting;
 use crate::vis::Vis;
 use gd_variant::{OutOfMemory, Text};
@@ -278,6 +278,39 @@ impl Sights {
         match item_at(self.rows.as_slice(), place) {
             Some(row) => row.sees(peer),
             None => false,
+        }
+    }
+
+    /// Whether a peer may see the synchronizer at a place of the row at a place among the rows.
+    pub fn sees_sync(&self, place: usize, k: usize, peer: &i32) -> bool
+        ensures { result ≡ some_is (λ (v : RowSightOf). some_is (λ (y : SightOf). is_visible y peer.now) (slice_get v.syncs k)) (slice_get self.now.rows place) }
+    {
+        match item_at(self.rows.as_slice(), place) {
+            Some(row) => sees_at(row, k, peer),
+            None => false,
+        }
+    }
+
+    /// How many fixed synchronizers this peer has.
+    pub fn count_fixed(&self) -> usize
+        ensures { result ≡ length self.now.fixed }
+    {
+        self.fixed.len()
+    }
+
+    /// The path of the fixed synchronizer at a place among those of this peer, where a peer may see it.
+    pub fn fixed_seen(&self, place: usize, peer: &i32) -> Option<&Text>
+        ensures { option_copied result ≡ path_seen peer.now (slice_get self.now.fixed place) }
+    {
+        match item_at(self.fixed.as_slice(), place) {
+            Some(fixed) => {
+                if fixed.vis.is_visible(peer) {
+                    Some(&fixed.path)
+                } else {
+                    None
+                }
+            }
+            None => None,
         }
     }
 
