@@ -1,5 +1,5 @@
 -- The synchronizers that a peer may see, from one place on.
-use Rattle.std.proofs.Common.{◌≡◌, ℕ, zero, suc, ◌+◌, ◌≤◌, ℤ, Bool, true, false, cond, List, [], ◌∷◌, ◌++◌, refl, sym, ap, ap₂, ◌∙◌, length, drop, map, ◌&&◌, Option, Some, None, arith}
+use Rattle.std.proofs.Common.{◌≡◌, ℕ, zero, suc, ◌+◌, ◌<◌, ◌≤◌, ℤ, Bool, true, false, cond, List, [], ◌∷◌, ◌++◌, refl, sym, ap, ap₂, ◌∙◌, length, get_or, drop, append_assoc, map, ◌&&◌, Option, Some, None, arith}
 use Rattle.std.specs.Prelude.{filter, slice_get, nat_eq, nat_le, nat_lt}
 use Rattle.std.specs.List.{list_all}
 use Rattle.std.proofs.lemmas.Bool.{le-leb, leb-true, ltb-false, or_parts, and_parts, eqb-true}
@@ -8,6 +8,7 @@ use Rattle.scene_model.specs.declared.scene.Scene.{Scene}
 use Rattle.scene_model.specs.declared.scene.SceneDef.{SceneDef}
 use Rattle.scene_model.specs.declared.spawn.SyncRef.{SyncRef}
 use Rattle.scene_model.specs.Lookup.{scene_at}
+use Rattle.scene_model.specs.Paths.{is_name}
 use Rattle.scene_model.specs.Valid.{IsValidScene, scene_why}
 use Rattle.peer_model.specs.Rows.{syncs_at}
 use Rattle.headless_tree.proofs.Numbered.{all_at}
@@ -18,6 +19,13 @@ use Rattle.peer_steps.specs.declared.rows.SpawnedRow.{SpawnedRow}
 use Rattle.peer_steps.specs.Rights.{is_right_row, is_right_byte, is_right_argument}
 use Rattle.peer_steps.specs.Tellings.{fixed_ref, fixed_seen, row_seen, rows_seen}
 use Rattle.spawn_track.specs.Seeing.{has_few_ids, fixed_refs, ref_seen, sights_in, row_refs}
+
+-- a list that was built so far, with what is left
+pub grow : {X : Type 0} (old out later made here all : List X) (part : List X) → out ++ here ≡ old ++ all → here ≡ part ++ later → made ≡ out ++ part → made ++ later ≡ old ++ all
+grow old out later made here all part so splits is = ap (λ ys. ys ++ later) is ∙ append_assoc out part later ∙ ap (λ ys. out ++ ys) (sym splits) ∙ so
+
+next : (i : ℕ) → suc i ≡ i + 1
+next i = omega arith
 
 -- fixed ones
 one_fixed : (b : ℤ) (s : Scene) (x : FixedSight) (xs : List FixedSight) → fixed_seen b s (x ∷ xs) ≡ fixed_refs s (path_seen b (Some x)) ++ fixed_seen b s xs
@@ -32,6 +40,11 @@ fixed_next b s [] zero = refl
 fixed_next b s [] (suc i) = refl
 fixed_next b s (x ∷ xs) zero = one_fixed b s x xs
 fixed_next b s (x ∷ xs) (suc i) = fixed_next b s xs i
+
+pub fixed_on : (b : ℤ) (s : Scene) (xs : List FixedSight) (i : ℕ) (old out made : List SyncRef) (o : Option (List ℕ)) → out ++ fixed_seen b s (drop i xs) ≡ old ++ fixed_seen b s xs → o ≡ path_seen b (slice_get xs i) → made ≡ out ++ fixed_refs s o
+    → made ++ fixed_seen b s (drop (i + 1) xs) ≡ old ++ fixed_seen b s xs
+fixed_on b s xs i old out made o so here is = grow old out (fixed_seen b s (drop (i + 1) xs)) made (fixed_seen b s (drop i xs)) (fixed_seen b s xs) (fixed_refs s o) so
+    (fixed_next b s xs i ∙ ap₂ (λ q k. fixed_refs s q ++ fixed_seen b s (drop k xs)) (sym here) (next i)) is
 
 -- those of a row
 one_seen : (b : ℤ) (path : List ℕ) (k id : ℕ) (ids : List ℕ) (v : Sight) (vs : List Sight) → row_seen b path k (id ∷ ids) (v ∷ vs) ≡ ref_seen path k (Some id) (is_visible v b) ++ row_seen b path (k + 1) ids vs
@@ -63,11 +76,22 @@ sights_at b zero None = refl
 sights_at b (suc k) None = refl
 sights_at b k (Some v) = refl
 
+pub row_on : (b : ℤ) (path : List ℕ) (ids : List ℕ) (v : Option RowSight) (k : ℕ) (old out made : List SyncRef) (seen : Bool) → out ++ row_seen b path k (drop k ids) (drop k (sights_in v)) ≡ old ++ row_seen b path 0 ids (sights_in v)
+    → seen ≡ some_is (λ (w : RowSight). some_is (λ (y : Sight). is_visible y b) (slice_get w.syncs k)) v → made ≡ out ++ ref_seen path k (slice_get ids k) seen
+    → made ++ row_seen b path (k + 1) (drop (k + 1) ids) (drop (k + 1) (sights_in v)) ≡ old ++ row_seen b path 0 ids (sights_in v)
+row_on b path ids v k old out made seen so here is = grow old out (row_seen b path (k + 1) (drop (k + 1) ids) (drop (k + 1) (sights_in v))) made (row_seen b path k (drop k ids) (drop k (sights_in v))) (row_seen b path 0 ids (sights_in v)) (ref_seen path k (slice_get ids k) seen) so
+    (row_next b path k ids (sights_in v) k ∙ ap₂ (λ q j. ref_seen path k (slice_get ids k) q ++ row_seen b path (k + 1) (drop j ids) (drop j (sights_in v))) (sym (here ∙ sights_at b k v)) (next k)) is
+
 pub row_done : (b : ℤ) (path : List ℕ) (k : ℕ) (ids : List ℕ) (vs : List Sight) → row_seen b path k (drop (length ids) ids) vs ≡ []
 row_done b path k [] vs = refl
 row_done b path k (id ∷ ids) vs = row_done b path k ids vs
 
 -- those of rows
+slice_here : {X : Type 0} (xs : List X) (i : ℕ) (x : X) → i < length xs → x ≡ get_or xs i x → slice_get xs i ≡ Some x
+slice_here [] i x low here = absurd (omega (arith, low))
+slice_here (y ∷ ys) zero x low here = ap Some (sym here)
+slice_here (y ∷ ys) (suc i) x low here = slice_here ys i x (omega (arith, low)) here
+
 no_rows : (b : ℤ) (rs : List SpawnedRow) → rows_seen b rs [] ≡ []
 no_rows b [] = refl
 no_rows b (r ∷ rs) = refl
@@ -80,6 +104,11 @@ rows_next b (x ∷ rows) [] zero r h = sym (ap (λ (rs : List SyncRef). rs ++ ro
 rows_next b (x ∷ rows) [] (suc i) r h = no_rows b (drop i rows) ∙ sym (ap (λ (rs : List SyncRef). rs ++ rows_seen b (drop (suc i) rows) []) (unseen b r.path 0 r.ids) ∙ no_rows b (drop (suc i) rows))
 rows_next b (x ∷ rows) (v ∷ vs) zero r h = let same : Some x ≡ Some r = h in let is : x ≡ r = cc in ap (λ (q : SpawnedRow). row_seen b q.path 0 q.ids v.syncs ++ rows_seen b rows vs) is
 rows_next b (x ∷ rows) (v ∷ vs) (suc i) r h = rows_next b rows vs i r h
+
+pub rows_on : (b : ℤ) (rows : List SpawnedRow) (vs : List RowSight) (i : ℕ) (r : SpawnedRow) (old out made : List SyncRef) → i < length rows → r ≡ get_or rows i r → out ++ rows_seen b (drop i rows) (drop i vs) ≡ old ++ rows_seen b rows vs → made ≡ out ++ row_refs b r (slice_get vs i)
+    → made ++ rows_seen b (drop (i + 1) rows) (drop (i + 1) vs) ≡ old ++ rows_seen b rows vs
+rows_on b rows vs i r old out made low here so is = grow old out (rows_seen b (drop (i + 1) rows) (drop (i + 1) vs)) made (rows_seen b (drop i rows) (drop i vs)) (rows_seen b rows vs) (row_refs b r (slice_get vs i)) so
+    (rows_next b rows vs i r (slice_here rows i r low here) ∙ ap (λ j. row_refs b r (slice_get vs i) ++ rows_seen b (drop j rows) (drop j vs)) (next i)) is
 
 -- a row that is right has at most 8 ids
 few_syncs : (s : Scene) → IsValidScene s → list_all (λ (d : SceneDef). nat_le (length d.syncs) 8) s.scenes ≡ true
@@ -94,8 +123,9 @@ few_at s v place = by (scene_at s place) refl
 
 few_ids : (s : Scene) → IsValidScene s → (r : SpawnedRow) → is_right_row s r ≡ true → has_few_ids r ≡ true
 few_ids s v r h =
-    let front = (and_parts _ _ h).0 in
-    let same = eqb-true (length r.ids) (length (syncs_at s (Some r.place))) (and_parts _ _ front).1 in
+    let last = (is_right_byte r.byte r.arg && is_right_argument r.arg) && nat_lt r.place (length s.scenes) in
+    let many = nat_eq (length r.ids) (length (syncs_at s (Some r.place))) in
+    let same : length r.ids ≡ length (syncs_at s (Some r.place)) = eqb-true (length r.ids) (length (syncs_at s (Some r.place))) (and_parts (is_name r.name) many (and_parts (is_name r.name && many) last h).0).1 in
     le-leb (length r.ids) 8 (omega (arith, same, few_at s v r.place))
 
 pub all_few : (s : Scene) → IsValidScene s → (rows : List SpawnedRow) → list_all (is_right_row s) rows ≡ true → list_all has_few_ids rows ≡ true

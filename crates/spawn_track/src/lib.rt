@@ -18,5 +18,6 @@ mod values;
 pub use lookup::{fixed_node, path_id, spawner_at, syncs_of};
 pub use making::copy_argument;
 pub use placing::put_value;
+pub use shown::FIXED_BIT;
 pub use track::{Gone, Track};
 pub use values::{fits, has_prop, owns};
