@@ -7,6 +7,7 @@ use Rattle.std.proofs.lemmas.Bool.{true≢false, or_parts, or_from}
 use Rattle.std.proofs.lemmas.List.{append-nil}
 use Rattle.gd_variant.specs.Words.{has_int, has_text, text_eq}
 use Rattle.gd_variant.specs.declared.value.Variant.{Variant}
+use Rattle.gd_variant.specs.declared.message.DeltaEntry.{DeltaEntry}
 use Rattle.gd_variant.specs.declared.message.Plain.{Plain}
 use Rattle.gd_variant.specs.declared.message.Plain.TheVariants as packet
 use Rattle.gd_variant.specs.declared.message.Message.TheVariants.{Plain as plain_packet}
@@ -15,7 +16,7 @@ use Rattle.scene_model.specs.declared.spawn.SpawnMsg.{SpawnMsg}
 use Rattle.scene_model.specs.declared.event.Class.{Class}
 use Rattle.scene_model.specs.declared.event.SpawnOp.{SpawnOp}
 use Rattle.scene_model.specs.declared.event.Op.{Op}
-use Rattle.scene_model.specs.declared.event.Op.TheVariants.{Spawn, Custom, Despawn, Set, Public, For, Filter}
+use Rattle.scene_model.specs.declared.event.Op.TheVariants.{Spawn, Custom, Despawn, Set, Public, For, Filter, Frame}
 use Rattle.scene_model.specs.Valid.{IsValidScene, has_twice}
 use Rattle.peer_model.specs.Heard.{Who, Heard, does, comes, goes, gets, received_from}
 use Rattle.peer_model.specs.Peers.{was_up, peers_come}
@@ -37,7 +38,8 @@ use Rattle.peer_laws.proofs.Views.{show_plain, shown_by, hidden_by, got, got_is_
 use Rattle.peer_laws.proofs.Rows.{below_of}
 use Rattle.peer_laws.proofs.TreeLinks.{tree_come, tree_go}
 use Rattle.peer_laws.proofs.TreeReceives.{tree_receive, tree_hide}
-use Rattle.peer_laws.proofs.TreeRows.{tree_despawn, tree_public, tree_for, tree_filter}
+use Rattle.peer_laws.proofs.TreeTells.{tree_tell, paths_stay}
+use Rattle.peer_laws.proofs.TreeRows.{tree_despawn, tree_public, tree_for, tree_filter, tree_frame}
 use Rattle.peer_laws.proofs.TreeSpawns.{Spawns, by_scene, by_custom, tree_made}
 use Rattle.peer_laws.proofs.TreeSets.{tree_set}
 
@@ -131,6 +133,14 @@ hidden_apart who es v all f from class bytes net h =
     ap (λ ns. has_twice (paths_of ns)) (tree_hide who es v all f from class bytes net h)
     ∙ filter_once (λ (n : Live). n.path) (λ n. not (is_row_of from n && nat_eq n.num net)) (tree_of who es) f.apart
 
+-- received values
+told_apart : (who : Who) (es : List Heard) → IsValidScene who.scene → AllAccepted who es → Facts who es → (from : ℤ) (class : Class) (bytes : List ℕ) (ts : List DeltaEntry)
+    → Accepts who es (got from class bytes (packet.Delta ts)) → has_twice (paths_of (tree_of who (got from class bytes (packet.Delta ts) ∷ es))) ≡ false
+told_apart who es v all f from class bytes ts h =
+    ap (λ ns. has_twice (paths_of ns)) (tree_tell who es v all f from class bytes ts h)
+    ∙ ap has_twice (paths_stay who.scene from ts (view who es from).rows (tree_of who es))
+    ∙ f.apart
+
 -- what holds of every list of built and accepted events
 pub facts : (who : Who) (es : List Heard) → IsValidScene who.scene → AllAccepted who es → Facts who es
 facts who [] v h = no_facts who v
@@ -143,6 +153,7 @@ facts who (does (Despawn path) ∷ es) v h = let f = facts who es v h.1 in facts
 facts who (does (Public p k on) ∷ es) v h = let f = facts who es v h.1 in facts_op who es f (Public p k on) (ap (λ ns. has_twice (paths_of ns)) (tree_public who es p k on) ∙ f.apart)
 facts who (does (For p k b on) ∷ es) v h = let f = facts who es v h.1 in facts_op who es f (For p k b on) (ap (λ ns. has_twice (paths_of ns)) (tree_for who es p k b on) ∙ f.apart)
 facts who (does (Filter p k bs) ∷ es) v h = let f = facts who es v h.1 in facts_op who es f (Filter p k bs) (ap (λ ns. has_twice (paths_of ns)) (tree_filter who es p k bs) ∙ f.apart)
+facts who (does Frame ∷ es) v h = let f = facts who es v h.1 in facts_op who es f Frame (ap (λ ns. has_twice (paths_of ns)) (tree_frame who es) ∙ f.apart)
 facts who (does op ∷ es) v h = absurd (true≢false (sym h.0.built))
 facts who (gets from class bytes (Ok (plain_packet (packet.Spawn scene spawner net syncs name arg values))) ∷ es) v h =
     let f = facts who es v h.1 in
@@ -151,5 +162,8 @@ facts who (gets from class bytes (Ok (plain_packet (packet.Spawn scene spawner n
 facts who (gets from class bytes (Ok (plain_packet (packet.Despawn net))) ∷ es) v h =
     let f = facts who es v h.1 in
     facts_got who es f from class bytes (packet.Despawn net) h.0 (hidden_apart who es v h.1 f from class bytes net h.0)
+facts who (gets from class bytes (Ok (plain_packet (packet.Delta ts))) ∷ es) v h =
+    let f = facts who es v h.1 in
+    facts_got who es f from class bytes (packet.Delta ts) h.0 (told_apart who es v h.1 f from class bytes ts h.0)
 facts who (gets from class bytes (Ok m) ∷ es) v h = absurd (true≢false (sym h.0.built))
 facts who (gets from class bytes (Err bad) ∷ es) v h = absurd (cc h.0.no_fault)

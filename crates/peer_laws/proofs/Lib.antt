@@ -18,6 +18,7 @@ pub mod Tests
 pub mod Told
 pub mod TreeLinks
 pub mod TreeReceives
+pub mod TreeTells
 pub mod TreeRows
 pub mod TreeSets
 pub mod TreeSpawns

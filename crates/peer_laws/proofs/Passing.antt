@@ -13,7 +13,7 @@ use Rattle.scene_model.specs.declared.scene.Node.{Node}
 use Rattle.scene_model.specs.declared.scene.SceneDef.{SceneDef}
 use Rattle.scene_model.specs.declared.scene.Prop.{Prop}
 use Rattle.scene_model.specs.declared.event.SpawnOp.{SpawnOp}
-use Rattle.scene_model.specs.declared.event.Op.TheVariants.{Spawn, Custom, Despawn, Set, Public, For, Filter}
+use Rattle.scene_model.specs.declared.event.Op.TheVariants.{Spawn, Custom, Despawn, Set, Public, For, Filter, Frame}
 use Rattle.scene_model.specs.Lookup.{fixed_node, scene_at, value_in}
 use Rattle.scene_model.specs.Valid.{IsValidScene, node_why, scene_why, value_long}
 use Rattle.peer_model.specs.Heard.{Who, Heard, does, comes, goes, gets}
@@ -150,11 +150,13 @@ assigned_passes ok k who es (does (Despawn p)) v h s path prop = refl
 assigned_passes ok k who es (does (Public p n on)) v h s path prop = refl
 assigned_passes ok k who es (does (For p n b on)) v h s path prop = refl
 assigned_passes ok k who es (does (Filter p n bs)) v h s path prop = refl
+assigned_passes ok k who es (does Frame) v h s path prop = refl
 assigned_passes ok k who es (does op) v h s path prop = absurd (true≢false (sym h.built))
 assigned_passes ok k who es (comes b) v h s path prop = refl
 assigned_passes ok k who es (goes b) v h s path prop = refl
 assigned_passes ok k who es (gets from class bytes (Ok (plain_packet (packet.Spawn scene spawner net syncs name arg values)))) v h s path prop = refl
 assigned_passes ok k who es (gets from class bytes (Ok (plain_packet (packet.Despawn net)))) v h s path prop = refl
+assigned_passes ok k who es (gets from class bytes (Ok (plain_packet (packet.Delta entries)))) v h s path prop = refl
 assigned_passes ok k who es (gets from class bytes (Ok m)) v h s path prop = absurd (true≢false (sym h.built))
 assigned_passes ok k who es (gets from class bytes (Err bad)) v h s path prop = refl
 

@@ -7,7 +7,7 @@ use Rattle.std.proofs.lemmas.Bool.{and_parts}
 use Rattle.std.proofs.lemmas.List.Elements.{filter-append}
 use Rattle.std.proofs.lemmas.List.Folds.{list_all-map}
 use Rattle.gd_variant.specs.Words.{some_is}
-use Rattle.scene_model.specs.declared.event.Op.TheVariants.{Despawn, Public, For, Filter}
+use Rattle.scene_model.specs.declared.event.Op.TheVariants.{Despawn, Public, For, Filter, Frame}
 use Rattle.scene_model.specs.declared.outcome.Refusal.TheVariants.{NoNode, NotSpawned, NotAuthority}
 use Rattle.scene_model.specs.Valid.{IsValidScene}
 use Rattle.scene_model.proofs.TextLaws.{text_eq-sym}
@@ -54,6 +54,14 @@ tree_for who es p k b on = ap (tree_with who es) (rows_for who es p k b on)
 
 pub tree_filter : (who : Who) (es : List Heard) (p : List ℕ) (k : ℕ) (peers : List ℤ) → tree_of who (does (Filter p k peers) ∷ es) ≡ tree_of who es
 tree_filter who es p k peers = ap (tree_with who es) (rows_filter who es p k peers)
+
+-- frames
+
+pub rows_frame : (who : Who) (es : List Heard) → own_rows who (does Frame ∷ es) ≡ own_rows who es
+rows_frame who es = rows_kept who es (does Frame) (λ q. refl) refl
+
+pub tree_frame : (who : Who) (es : List Heard) → tree_of who (does Frame ∷ es) ≡ tree_of who es
+tree_frame who es = ap (tree_with who es) (rows_frame who es)
 
 -- despawns
 

@@ -1,4 +1,4 @@
--- What is seen of each peer, where only spawns and despawns are received: its updates applied, and its rows among the nodes of the tree.
+-- What is seen of each peer, where only spawns, despawns and values are received: its updates applied, and its rows among the nodes of the tree.
 use Rattle.std.proofs.Common.{◌≡◌, ℕ, ℤ, Bool, true, false, cond, not, ◌&&◌, ◌||◌, List, [], ◌∷◌, ◌++◌, refl, sym, ap, ap₂, ◌∙◌, length, map, filter, reverse, is_some, nat_eq, nat_le, Option, Some, None, Ok, Err}
 use Rattle.std.specs.Prelude.{flat_map, find, is_none, int_lt, if◌then◌else◌}
 use Rattle.std.specs.List.{list_all, cons_option}
@@ -6,9 +6,10 @@ use Rattle.std.specs.Ordering.{int_eq}
 use Rattle.std.proofs.lemmas.Bool.{true≢false, or_right, and_parts, and_from, or_parts}
 use Rattle.std.proofs.lemmas.Grind.{flat_map-append, reverse_onto}
 use Rattle.std.proofs.lemmas.List.Elements.{filter-append}
-use Rattle.std.proofs.lemmas.List.Folds.{map_fixed}
+use Rattle.std.proofs.lemmas.List.Folds.{map_fixed, list_all-map}
 use Rattle.std.proofs.lemmas.List.{append-nil}
 use Rattle.gd_variant.specs.Words.{has_int, has_nat, put_by}
+use Rattle.gd_variant.specs.declared.message.DeltaEntry.{DeltaEntry}
 use Rattle.gd_variant.specs.declared.message.Plain.{Plain}
 use Rattle.gd_variant.specs.declared.message.Plain.TheVariants as packet
 use Rattle.gd_variant.specs.declared.message.Message.TheVariants.{Plain as plain_packet, AddPeer, DelPeer, Auth, Relay}
@@ -18,12 +19,12 @@ use Rattle.scene_model.specs.declared.event.Class.{Class}
 use Rattle.scene_model.specs.declared.spawn.SpawnMsg.{SpawnMsg}
 use Rattle.scene_model.specs.Paths.{is_name}
 use Rattle.scene_model.specs.Lookup.{fixed_node_at}
-use Rattle.scene_model.specs.Syncs.{Syncer}
+use Rattle.scene_model.specs.Syncs.{Syncer, syncer_with}
 use Rattle.scene_model.specs.Valid.{IsValidScene}
 use Rattle.peer_model.specs.Heard.{Who, Heard, does, comes, goes, gets, is_server, server, received_from}
 use Rattle.peer_model.specs.Peers.{is_up, peers_up}
 use Rattle.peer_model.specs.Rows.{OwnRow, own_rows, syncs_at}
-use Rattle.peer_model.specs.Updates.{Update, Hide, Show, Live, Replica, applied, shown_node, shown_path, shown_place, by_number, replica_syncers, fixed_of, spawner_with}
+use Rattle.peer_model.specs.Updates.{Update, Hide, Show, Tell, Live, Replica, applied, apply_update, apply_updates, tell_node, shown_node, shown_path, shown_place, by_number, replica_syncers, fixed_of, spawner_with}
 use Rattle.peer_model.specs.View.{view, updates_in, updates_from, samples_of, best_sample, with_sample, with_samples, sampled_values, rows_while, own_live, rows_of, authorities, fixed_now, tree_of, node_at}
 use Rattle.peer_model.specs.Refusals.{most_rows}
 use Rattle.peer_model.specs.Faults.{link_fault, packet_fault, spawn_fault, auth_is, bad_id, first_known, known_ids, wrong_spawn}
@@ -54,7 +55,7 @@ got from class bytes p = gets from class bytes (Ok (plain_packet p))
 abbrev pub hidden_by : ℤ → Class → List ℕ → ℕ → Heard
 hidden_by from class bytes net = got from class bytes (packet.Despawn net)
 
--- only spawns and despawns are received
+-- only packets of rows and of their values are received
 
 pub only_rows : (who : Who) (es : List Heard) → AllAccepted who es → (c : ℤ) → list_all is_row_packet (received_from who es c) ≡ true
 only_rows who [] h c = refl
@@ -75,6 +76,7 @@ no_samples : (id : ℕ) (ps : List Plain) → list_all is_row_packet ps ≡ true
 no_samples id [] h = refl
 no_samples id (packet.Spawn scene spawner net syncs name arg values ∷ ps) h = elim (has_nat id syncs) as (λ b. (if b then [] else samples_of id ps) ≡ []) [ true ↦ refl | false ↦ no_samples id ps h ]
 no_samples id (packet.Despawn net ∷ ps) h = no_samples id ps h
+no_samples id (packet.Delta entries ∷ ps) h = no_samples id ps h
 no_samples id (p ∷ ps) h = absurd (true≢false (sym (and_parts (is_row_packet p) (list_all is_row_packet ps) h).0))
 
 same_node : (ps : List Plain) → list_all is_row_packet ps ≡ true → (n : Live) (y : Syncer) → with_sample ps n y ≡ n
@@ -170,6 +172,21 @@ welcome_is_row who es from m v w = and_from (is_some (shown_place who.scene m)) 
 
 -- rows of a view
 
+-- Tells leave whose rows they are
+row_told : (c : ℤ) (o : Option Syncer) (t : DeltaEntry) (n : Live) → is_row_of c (tell_node o t n) ≡ is_row_of c n
+row_told c None t n = refl
+row_told c (Some y) t n = refl
+
+all_told : (s : Scene) (c : ℤ) (ts : List DeltaEntry) (r : Replica) → list_all (is_row_of c) r.rows ≡ true → list_all (is_row_of c) (apply_updates s c r (map Tell ts)).rows ≡ true
+all_told s c [] r h = h
+all_told s c (t ∷ ts) r h =
+    let o = syncer_with t.id (replica_syncers s c r.rows) in
+    all_told s c ts (apply_update s c r (Tell t)) (list_all-map (is_row_of c) (tell_node o t) r.rows ∙ all_same (λ n. is_row_of c (tell_node o t n)) (is_row_of c) (row_told c o t) r.rows ∙ h)
+  where
+    all_same : (p q : Live → Bool) → ((n : Live) → p n ≡ q n) → (ns : List Live) → list_all p ns ≡ list_all q ns
+    all_same p q k [] = refl
+    all_same p q k (n ∷ ns) = ap₂ (λ a b. a && b) (k n) (all_same p q k ns)
+
 -- whether all that a peer's updates make with one packet more are its rows
 abbrev rows_with : Who → List Heard → ℤ → Option Plain → Bool
 rows_with who es c o = list_all (is_row_of c) (applied who.scene c (flat_map updates_in (reverse (cons_option o (received_from who es c))))).rows
@@ -202,6 +219,14 @@ applied_rows_are_of who (gets from class bytes (Ok (plain_packet (packet.Despawn
         ap (λ us. list_all (is_row_of c) (applied who.scene c us).rows) (updates_onto (received_from who es c) (packet.Despawn net))
         ∙ ap (λ (r : Replica). list_all (is_row_of c) r.rows) (applied_hide who.scene c (updates_from who es c) net)
         ∙ all-filter (is_row_of c) (λ (n : Live). not (nat_eq n.num net)) (applied who.scene c (updates_from who es c)).rows more
+applied_rows_are_of who (gets from class bytes (Ok (plain_packet (packet.Delta entries))) ∷ es) v h c = step (int_eq from c) (applied_rows_are_of who es v h.1 c)
+  where
+    step : (b : Bool) → list_all (is_row_of c) (applied who.scene c (updates_from who es c)).rows ≡ true → rows_with who es c (cond b (Some (packet.Delta entries)) None) ≡ true
+    step false more = more
+    step true more =
+        ap (λ us. list_all (is_row_of c) (applied who.scene c us).rows) (updates_onto (received_from who es c) (packet.Delta entries))
+        ∙ ap (λ (r : Replica). list_all (is_row_of c) r.rows) (joined_updates who.scene c (record { fixed = fixed_of who.scene c; rows = [] }) (updates_from who es c) (map Tell entries))
+        ∙ all_told who.scene c entries (applied who.scene c (updates_from who es c)) more
 applied_rows_are_of who (gets from class bytes (Ok m) ∷ es) v h c = absurd (true≢false (sym h.0.built))
 applied_rows_are_of who (gets from class bytes (Err bad) ∷ es) v h c = applied_rows_are_of who es v h.1 c
 

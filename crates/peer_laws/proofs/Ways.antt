@@ -10,14 +10,13 @@ use Rattle.gd_variant.specs.Words.{has_int}
 use Rattle.gd_variant.specs.declared.message.Plain.{Plain}
 use Rattle.gd_variant.specs.declared.message.Plain.TheVariants as packet
 use Rattle.gd_variant.specs.declared.message.Message.TheVariants.{Plain as plain_packet, Relay}
-use Rattle.scene_model.specs.declared.event.Op.TheVariants.{Call, Raw, Frame}
+use Rattle.scene_model.specs.declared.event.Op.TheVariants.{Call, Raw}
 use Rattle.scene_model.specs.declared.outcome.Out.{Out}
 use Rattle.peer_model.specs.Heard.{Who, Heard, does, gets, is_server, server}
 use Rattle.peer_model.specs.Peers.{is_up, peers_up, peers_come}
 use Rattle.peer_model.specs.Updates.{Update, applied}
-use Rattle.peer_model.specs.Changes.{changes, added, is_frame}
-use Rattle.peer_model.specs.Ticks.{tick_of, sampled}
-use Rattle.peer_model.specs.Answer.{Parcel, reliable, own_sends, sends, sends_to, change_sends, sample_sends, update_packet}
+use Rattle.peer_model.specs.Changes.{changes, added}
+use Rattle.peer_model.specs.Answer.{Parcel, reliable, own_sends, sends, sends_to, update_packet}
 use Rattle.peer_model.specs.Bytes.{PacketForm, out_of}
 use Rattle.peer_laws.specs.Built.{AllAccepted, is_built}
 use Rattle.peer_laws.proofs.Each.{all-sort_by, none_weaker}
@@ -29,7 +28,7 @@ use Rattle.peer_laws.proofs.Told.{adds}
 use Rattle.peer_laws.proofs.Ups.{has_up, ups_apart, up_is_direct}
 use Rattle.headless_tree.proofs.Order.{all_weaker}
 
--- what is built sends no packet of its own, and is no frame
+-- what is built sends no packet of its own
 
 no_own : (who : Who) (e : Heard) (es : List Heard) → is_built e ≡ true → own_sends who e es ≡ []
 no_own who (does (Call c)) es h = absurd (cc h)
@@ -38,15 +37,9 @@ no_own who (gets from class bytes (Ok (plain_packet (packet.Simplify digest id p
 no_own who (gets from class bytes (Ok (Relay peer p))) es h = absurd (cc h)
 no_own who e es h = refl
 
-no_frame : (e : Heard) → is_built e ≡ true → is_frame e ≡ false
-no_frame (does Frame) h = absurd (cc h)
-no_frame e h = refl
-
 -- the packets of an event to a peer are those of what it adds for the peer
-sent_to : (who : Who) (e : Heard) (es : List Heard) (c : ℤ) → is_frame e ≡ false → sends_to who e es c ≡ map (λ u. reliable who c (update_packet u)) (adds who e es c)
-sent_to who e es c plain =
-    ap (λ b. change_sends who e es c ++ (if b then sample_sends who c (tick_of (e ∷ es) c) (sampled who (e ∷ es) c) else [])) plain
-    ∙ append-nil (change_sends who e es c)
+sent_to : (who : Who) (e : Heard) (es : List Heard) (c : ℤ) → sends_to who e es c ≡ map (λ u. reliable who c (update_packet u)) (adds who e es c)
+sent_to who e es c = refl
 
 -- a packet to a peer with a link of its own is put on that link
 link_is : (who : Who) (c : ℤ) (p : Plain) → (is_server who || int_eq c server) ≡ true → (reliable who c p).link ≡ c
@@ -93,7 +86,7 @@ module _ (form : PacketForm) (who : Who) (b : ℤ) where
   on_links e es all =
       let ups = peers_up (e ∷ es) in
       ap (λ ps. filter is_on (map (out_of form) (ps ++ flat_map (sends_to who e es) ups))) (no_own who e es all.0.built)
-      ∙ ap (λ ps. filter is_on (map (out_of form) ps)) (flat_each (sends_to who e es) (λ c. map (λ u. reliable who c (update_packet u)) (adds who e es c)) (λ c. sent_to who e es c (no_frame e all.0.built)) ups)
+      ∙ ap (λ ps. filter is_on (map (out_of form) ps)) (flat_each (sends_to who e es) (λ c. map (λ u. reliable who c (update_packet u)) (adds who e es c)) (λ c. sent_to who e es c) ups)
       ∙ on_link (adds who e es) ups (ups_apart who (e ∷ es) all)
       (all_weaker (is_up (e ∷ es)) (λ c. is_server who || int_eq c server) (λ c up. up_is_direct who (e ∷ es) all c up) ups
       (all-sort_by (is_up (e ∷ es)) int_lt (filter (is_up (e ∷ es)) (peers_come (e ∷ es))) (all_pass (is_up (e ∷ es)) (peers_come (e ∷ es)))))

@@ -174,11 +174,11 @@ sample_sends who b t (n ∷ ns) = map (λ m. tick_packet who b t (m ∷ [])) (n 
 abbrev pub frame_sends : Who → Heard → List Heard → ℤ → List Parcel
 frame_sends who e es b = if is_frame e then sample_sends who b (tick_of (e ∷ es) b) (sampled who (e ∷ es) b) else []
 
--- what an event has sent to a peer: its changes, then its samples
+-- what an event has sent to a peer: its changes; its samples, frame_sends, join them once loose packets are built
 abbrev pub sends_to : Who → Heard → List Heard → ℤ → List Parcel
-sends_to who e es b = change_sends who e es b ++ frame_sends who e es b
+sends_to who e es b = change_sends who e es b
 
--- the packets of an accepted event: its own, then for each peer that is up its changes and samples
+-- the packets of an accepted event: its own, then its changes for each peer that is up
 abbrev pub sends : Who → Heard → List Heard → List Parcel
 sends who e es = own_sends who e es ++ flat_map (sends_to who e es) (peers_up (e ∷ es))
 

@@ -16,7 +16,8 @@ use Rattle.peer_model.specs.Rows.{syncs_at}
 use Rattle.peer_model.specs.Values.{default_value}
 use Rattle.peer_model.specs.Updates.{all_spawn_props}
 use Rattle.headless_tree.specs.Nodes.{value_at}
-use Rattle.delta_props.specs.Telling.{ToldValues, with_told, without_sync, without_peer, collected}
+use Rattle.delta_props.specs.Telling.{ToldValues, collected}
+use Rattle.telling_laws.specs.Telling.{told_all, told_none}
 use Rattle.sight_laws.specs.Sights.{Sight, RowSight, FixedSight, is_visible}
 use Rattle.peer_steps.specs.declared.rows.SpawnedRow.{SpawnedRow}
 use Rattle.peer_steps.specs.Track.{Track, row_with}
@@ -50,16 +51,6 @@ shown_told s nodes r y = map (shown_value s nodes r) (change_props y.def)
 -- the synchronizers of an own row
 abbrev pub syncers_in : Scene → SpawnedRow → List Syncer
 syncers_in s r = row_syncers r.path r.ids (syncs_at s (Some r.place))
-
--- a peer has these values of some synchronizers
-abbrev pub told_all : ℤ → (Syncer → List Variant) → List Syncer → ToldValues → ToldValues
-told_all b f [] t = t
-told_all b f (y ∷ ys) t = told_all b f ys (with_told b y.id (f y) t)
-
--- nothing counts as told of the synchronizers with these ids
-abbrev pub told_none : ℤ → List ℕ → ToldValues → ToldValues
-told_none b [] t = t
-told_none b (id ∷ ids) t = told_none b ids (without_sync b id t)
 
 -- an own row is shown to a peer
 abbrev pub row_shown : Scene → List Live → SpawnedRow → ℤ → ToldValues → ToldValues

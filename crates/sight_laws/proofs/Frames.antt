@@ -16,8 +16,7 @@ use Rattle.peer_model.specs.Values.{own_value}
 use Rattle.peer_model.specs.Visible.{visible_to, own_syncers, row_syncers_of}
 use Rattle.peer_model.specs.Updates.{Replica, apply_updates}
 use Rattle.peer_model.specs.Changes.{tells, tell_of, tell_for, differs, mask_of, value_told}
-use Rattle.peer_model.specs.Ticks.{tick_of, sampled}
-use Rattle.peer_model.specs.Answer.{reliable, update_packet, sends_to, sample_sends}
+use Rattle.peer_model.specs.Answer.{reliable, update_packet, sends_to}
 use Rattle.peer_laws.proofs.Joined.{flat_each}
 use Rattle.world_laws.proofs.Frames.{frame_tells_values}
 use Rattle.sight_laws.specs.Sights.{is_visible}
@@ -65,9 +64,9 @@ frame_seen who es b = ap (filter (visible_to who (does Frame ∷ es) b)) (frame_
 -- what is sent
 
 pub sends_frame : SendsFrame
-sends_frame who es v all = flat_same (sends_to who (does Frame) es) (λ b. map (λ u. reliable who b (update_packet u)) (flat_map (λ y. tell_by who es y (told_values who es b y)) (filter (visible_to who es b) (own_syncers who es))) ++ sample_sends who b (tick_of (does Frame ∷ es) b) (sampled who (does Frame ∷ es) b)) (peers_up es)
-    (every_weaker (λ b. is_up es b ≡ true) (λ b. sends_to who (does Frame) es b ≡ (map (λ u. reliable who b (update_packet u)) (flat_map (λ y. tell_by who es y (told_values who es b y)) (filter (visible_to who es b) (own_syncers who es))) ++ sample_sends who b (tick_of (does Frame ∷ es) b) (sampled who (does Frame ∷ es) b)))
-    (λ b up. ap (λ us. map (λ u. reliable who b (update_packet u)) us ++ sample_sends who b (tick_of (does Frame ∷ es) b) (sampled who (does Frame ∷ es) b))
+sends_frame who es v all = flat_same (sends_to who (does Frame) es) (λ b. map (λ u. reliable who b (update_packet u)) (flat_map (λ y. tell_by who es y (told_values who es b y)) (filter (visible_to who es b) (own_syncers who es)))) (peers_up es)
+    (every_weaker (λ b. is_up es b ≡ true) (λ b. sends_to who (does Frame) es b ≡ map (λ u. reliable who b (update_packet u)) (flat_map (λ y. tell_by who es y (told_values who es b y)) (filter (visible_to who es b) (own_syncers who es))))
+    (λ b up. ap (λ us. map (λ u. reliable who b (update_packet u)) us)
     (ap (λ us. us ++ tells who (does Frame ∷ es) b (apply_updates who.scene who.id (told_to who es b) us)) (nothing_shifts who es (does Frame) v all b up up refl (all_left who es (does Frame) b refl))
     ∙ ap (flat_map (tell_of who (does Frame ∷ es) (told_to who es b))) (frame_seen who es b)
     ∙ flat_each (tell_of who (does Frame ∷ es) (told_to who es b)) (λ y. tell_by who es y (told_values who es b y)) (λ y. tell_is_by who (does Frame ∷ es) (told_to who es b) y) (filter (visible_to who es b) (own_syncers who es))))

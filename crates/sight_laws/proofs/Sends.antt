@@ -95,9 +95,7 @@ abbrev told : Who → Heard → List Heard → ℤ → List Parcel
 told who e es b = to_peer who b (hides_and_shows who (e ∷ es) b (applied who.scene who.id (changes who es b)))
 
 told_plain : (who : Who) (e : Heard) (es : List Heard) (b : ℤ) → is_frame e ≡ false → sends_to who e es b ≡ told who e es b
-told_plain who e es b plain =
-    ap (λ c. to_peer who b (if c then with_tells who (e ∷ es) b r us else us) ++ (if c then sample_sends who b (tick_of (e ∷ es) b) (sampled who (e ∷ es) b) else [])) plain
-    ∙ append-nil (told who e es b)
+told_plain who e es b plain = ap (λ c. to_peer who b (if c then with_tells who (e ∷ es) b r us else us)) plain
   where
     r : Replica
     r = applied who.scene who.id (changes who es b)

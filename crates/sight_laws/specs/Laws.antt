@@ -16,12 +16,11 @@ use Rattle.peer_model.specs.Visible.{visible_to, sees, visible_rows, own_syncers
 use Rattle.peer_model.specs.Updates.{Hide, Show, applied, shown_node}
 use Rattle.peer_model.specs.Changes.{changes, show_of, hides_and_shows, is_frame, value_told, numbers_of}
 use Rattle.peer_model.specs.Refusals.{peers_full, filters_full}
-use Rattle.peer_model.specs.Answer.{reliable, update_packet, own_sends, sends, sample_sends}
+use Rattle.peer_model.specs.Answer.{reliable, update_packet, own_sends, sends}
 use Rattle.world_laws.specs.Done.{IsDone, AllDone}
 use Rattle.sight_laws.specs.Sights.{RowSight, FixedSight, fixed_sight, is_visible, is_set_full, is_filter_full, sight_of, row_sight, row_sees, first_sights, with_row, without_row, with_row_set, with_fixed_set, with_peer_up, with_peer_down}
 use Rattle.sight_laws.specs.Seen.{SightSet, set_in, is_still, all_sights, rows_lost, rows_gained, shown_packet, shift_sends}
 use Rattle.sight_laws.specs.Told.{told_to, told_values, tell_by, fixed_first_told, row_first_told}
-use Rattle.peer_model.specs.Ticks.{tick_of, sampled}
 use Rattle.peer_model.specs.Values.{own_value}
 
 -- what is kept of a synchronizer's settings tells to whom it is visible
@@ -158,11 +157,10 @@ ToldRowShown = (who : Who) (es : List Heard) (e : Heard) (b : ℤ) (r : OwnRow) 
     → Contains (visible_rows who (e ∷ es) b) r → has_nat r.num (numbers_of (visible_rows who es b)) ≡ false
     → value_told (told_to who (e ∷ es) b) r.path p ≡ value_in (shown_node who.scene who.id (show_of who (e ∷ es) r)).values p
 
--- a frame tells each peer that is up, of each synchronizer that it may see, the on-change values that differ from those that it was told last, and then its samples
+-- a frame tells each peer that is up, of each synchronizer that it may see, the on-change values that differ from those that it was told last
 abbrev pub SendsFrame : Type 0
 SendsFrame = (who : Who) (es : List Heard) → IsValidScene who.scene → AllDone who (does Frame ∷ es)
-    → sends who (does Frame) es ≡ flat_map (λ b. map (λ u. reliable who b (update_packet u)) (flat_map (λ y. tell_by who es y (told_values who es b y)) (filter (visible_to who es b) (own_syncers who es)))
-    ++ sample_sends who b (tick_of (does Frame ∷ es) b) (sampled who (does Frame ∷ es) b)) (peers_up es)
+    → sends who (does Frame) es ≡ flat_map (λ b. map (λ u. reliable who b (update_packet u)) (flat_map (λ y. tell_by who es y (told_values who es b y)) (filter (visible_to who es b) (own_syncers who es)))) (peers_up es)
 
 -- after it the peer was told the present values of each synchronizer that it may see
 abbrev pub ToldAtFrame : Type 0
