@@ -38,30 +38,32 @@ use Rattle.peer_steps.specs.Stands.{StandsFor}
 use Rattle.peer_steps.specs.Peers.{Peers, no_peers, comes_judged, peers_after, peer_comes, peer_goes, without_peer}
 use Rattle.peer_steps.specs.Sites.{who_at, own_made}
 use Rattle.peer_steps.specs.Sound.{is_sound_spawn, is_sound_read, is_sound_message}
-use Rattle.peer_steps.specs.Steps.{Taken, unchanged, done_with, row_packet, sent_to, up_answer, up_taken, link_taken, track_came, spawn_answer, spawn_taken, shows_of, despawn_answer, despawn_taken, answer_by, shifts, row_shifts, sight_shifts, sight_taken, row_read, message_taken, linked_taken, read_taken}
+use Rattle.peer_steps.specs.Steps.{Taken, unchanged, done_with, row_packet, sent_to, up_answer, up_taken, link_taken, track_came, told_came, spawn_answer, spawn_told, spawn_taken, shows_of, sight_told, row_told as told_row, despawn_answer, despawn_taken, answer_by, shifts, row_shifts, sight_shifts, sight_taken, row_read, message_taken, linked_taken, read_taken}
 use Rattle.peer_steps.specs.Track.{Track, Spawned, Despawned, Sighted, SightChange, first_track, track_after, own_spawn, shown_spawn, hidden_row, tree_without, track_up, track_down, seen_by, shown_of, number_at, row_with, is_row, despawned_by, own_despawn, sighted_by, sight_at, own_sighted}
 use Rattle.peer_steps.proofs.Fitting.{fits_start, fits_without, fits_hidden, fits_despawn, fits_up, fits_down, fits_set, fits_spawn, fits_shown}
 use Rattle.peer_steps.proofs.Clauses.{start_stands}
+use Rattle.delta_props.specs.Telling.{ToldValues}
 use Rattle.spawn_track.specs.Judging.{IsDespawned}
 use Rattle.spawn_track.specs.Numbers.{IsTracked, row_at, row_number_of}
 use Rattle.spawn_track.specs.declared.track.Gone.{Gone}
 use Rattle.spawn_track.proofs.Tracked.{tracked_start, tracked_up, tracked_down, tracked_set, tracked_despawn, tracked_spawn}
+use Rattle.peer_steps.specs.Tellings.{hidden_from_all, ids_with}
 use Rattle.peer_core.specs.declared.messages.RowNews.{RowNews}
 use Rattle.peer_core.specs.declared.messages.RowNews.TheVariants.{Appears}
 use Rattle.peer_core.specs.Forms.{packet_form}
-use Rattle.peer_core.specs.Parts.{AreRight, parts_kept, news_of, own_row, shown_before, row_told, seen_at, as_list, gone_answer}
+use Rattle.peer_core.specs.Parts.{AreRight, parts_kept, news_of, own_row, shown_before, row_told, seen_at, as_list, gone_answer, gone_told, shift_told}
 
 -- a step of the parts of a peer that isn't spent is one of that peer
-pub by_parts : (f : Kept → Taken) (x : Taken) (k : Kept) (s : Bool) (p : Peers) (t : TreeOf) (r : Track) → parts_kept s p t r ≡ k → k.spent ≡ false → x ≡ f (parts_kept false p t r) → x ≡ f k
-by_parts f x k s p t r is live made = made ∙ ap f (ap (λ b. parts_kept b p t r) (sym (ap (λ (j : Kept). j.spent) is ∙ live)) ∙ is)
+pub by_parts : (f : Kept → Taken) (x : Taken) (k : Kept) (s : Bool) (p : Peers) (t : TreeOf) (r : Track) (old : ToldValues) → parts_kept s p t r old ≡ k → k.spent ≡ false → x ≡ f (parts_kept false p t r old) → x ≡ f k
+by_parts f x k s p t r old is live made = made ∙ ap f (ap (λ b. parts_kept b p t r old) (sym (ap (λ (j : Kept). j.spent) is ∙ live)) ∙ is)
 
 -- what is kept with other peers, and with other nodes and own rows
 
-with_peers : (p ps : Peers) (t : TreeOf) (r w v : Track) → ps.me ≡ p.me → w ≡ v → parts_kept false ps t w ≡ record (parts_kept false p t r) { peers = ps; track = v }
-with_peers p ps t r w v same track = ap₂ {C = Kept} (λ (me : ℤ) (x : Track). record (parts_kept false p t r) { who = record { id = me; scene = t.scene }; peers = ps; track = x }) same track
+with_peers : (p ps : Peers) (t : TreeOf) (r w v : Track) (old new later : ToldValues) → ps.me ≡ p.me → w ≡ v → new ≡ later → parts_kept false ps t w new ≡ record (parts_kept false p t r old) { peers = ps; track = v; told = later }
+with_peers p ps t r w v old new later same track tells = ap₂ {C = Kept} (λ (me : ℤ) (x : Track × ToldValues). record (parts_kept false p t r old) { who = record { id = me; scene = t.scene }; peers = ps; track = x.0; told = x.1 }) same (ap₂ (λ (a : Track) (b : ToldValues). (a, b)) track tells)
 
-with_nodes : (p : Peers) (t u : TreeOf) (r w : Track) → u.scene ≡ t.scene → parts_kept false p u w ≡ record (parts_kept false p t r) { nodes = u.nodes; track = w }
-with_nodes p t u r w same = ap (λ (s : Scene). record (parts_kept false p t r) { who = record { id = p.me; scene = s }; nodes = u.nodes; track = w }) same
+with_nodes : (p : Peers) (t u : TreeOf) (r w : Track) (old new : ToldValues) → u.scene ≡ t.scene → parts_kept false p u w new ≡ record (parts_kept false p t r old) { nodes = u.nodes; track = w; told = new }
+with_nodes p t u r w old new same = ap (λ (s : Scene). record (parts_kept false p t r old) { who = record { id = p.me; scene = s }; nodes = u.nodes; track = w; told = new }) same
 
 -- a link that comes up
 
@@ -86,28 +88,28 @@ seen_same b [] vs = refl
 seen_same b (r ∷ rs) [] = refl
 seen_same b (r ∷ rs) (v ∷ vs) = ap₂ (λ c qs. if c then r ∷ qs else qs) (sees_same b v) (seen_same b rs vs)
 
-up_same : (k : Kept) (ps : Peers) (b : ℤ) (f : Option Refusal) → up_answer packet_form (record k { peers = ps; track = track_came f b k.track }) b f ≡ up_answer packet_form k b f
+up_same : (k : Kept) (ps : Peers) (b : ℤ) (f : Option Refusal) → up_answer packet_form (record k { peers = ps; track = track_came f b k.track; told = told_came f b k }) b f ≡ up_answer packet_form k b f
 up_same k ps b (Some r) = refl
 up_same k ps b None = ap (λ rs. done_with (map (λ q. sent_to packet_form b (row_packet k.who.scene k.nodes q)) rs)) (seen_same b k.track.rows k.track.sights.rows)
 
-pub link_is : (p ps : Peers) (t : TreeOf) (r w : Track) (b : ℤ) (f : Option Refusal) (o : Outcome) → lacks_server p.me b ≡ false → (f, ps) ≡ peer_comes b p → w ≡ track_came f b r → o ≡ up_answer packet_form (parts_kept false ps t w) b f
-    → record { outcome = o; kept = parts_kept false ps t w } ≡ link_taken packet_form (parts_kept false p t r) b
-link_is p ps t r w b f o linked made shown answer =
-    let k = parts_kept false p t r in
-    let same = with_peers p ps t r w (track_came f b r) (ap (λ (x : Option Refusal × Peers). x.1.me) made ∙ comes_me b p) shown in
+pub link_is : (p ps : Peers) (t : TreeOf) (r w : Track) (old new : ToldValues) (b : ℤ) (f : Option Refusal) (o : Outcome) → lacks_server p.me b ≡ false → (f, ps) ≡ peer_comes b p → w ≡ track_came f b r → new ≡ told_came f b (parts_kept false p t r old) → o ≡ up_answer packet_form (parts_kept false ps t w new) b f
+    → record { outcome = o; kept = parts_kept false ps t w new } ≡ link_taken packet_form (parts_kept false p t r old) b
+link_is p ps t r w old new b f o linked made shown tells answer =
+    let k = parts_kept false p t r old in
+    let same = with_peers p ps t r w (track_came f b r) old new (told_came f b k) (ap (λ (x : Option Refusal × Peers). x.1.me) made ∙ comes_me b p) shown tells in
     ap₂ {C = Taken} (λ (x : Outcome) (j : Kept). record { outcome = x; kept = j }) (answer ∙ ap (λ j. up_answer packet_form j b f) same ∙ up_same k ps b f) same
     ∙ ap (up_taken packet_form k b) made
     ∙ sym (ap (λ c. if c then unchanged k (Refused BadPeer) else up_taken packet_form k b (peer_comes b p)) linked)
 
 -- the packets that show all rows to a peer that came up
-pub up_shown : (k : Kept) (s : Bool) (p : Peers) (t : TreeOf) (r : Track) (b : ℤ) (f : Option Refusal) (packets : List Out) (o : Outcome) → parts_kept s p t r ≡ k → f ≡ None
+pub up_shown : (k : Kept) (s : Bool) (p : Peers) (t : TreeOf) (r : Track) (old : ToldValues) (b : ℤ) (f : Option Refusal) (packets : List Out) (o : Outcome) → parts_kept s p t r old ≡ k → f ≡ None
     → packets ≡ map (λ q. sent_to packet_form b (row_packet t.scene t.nodes q)) (seen_by b r.rows r.sights.rows) → o ≡ done_with packets → o ≡ up_answer packet_form k b f
-up_shown k s p t r b f packets o is none packed done = done ∙ ap done_with packed ∙ ap₂ (λ j g. up_answer packet_form j b g) is (sym none)
+up_shown k s p t r old b f packets o is none packed done = done ∙ ap done_with packed ∙ ap₂ (λ j g. up_answer packet_form j b g) is (sym none)
 
-pub if_linked : (x : Result Outcome OutOfMemory) (k : Kept) (s : Bool) (p ps : Peers) (t : TreeOf) (r w : Track) (b : ℤ) (f : Option Refusal) → parts_kept s p t r ≡ k → k.spent ≡ false → lacks_server p.me b ≡ false → (f, ps) ≡ peer_comes b p → w ≡ track_came f b r
-    → IfOk x (λ o. o ≡ up_answer packet_form (parts_kept false ps t w) b f) → IfOk x (λ o. ◌≡◌ {A = Taken} (record { outcome = o; kept = parts_kept false ps t w }) (link_taken packet_form k b))
-if_linked (Ok o) k s p ps t r w b f is live linked made shown answer = by_parts (λ j. link_taken packet_form j b) (record { outcome = o; kept = parts_kept false ps t w }) k s p t r is live (link_is p ps t r w b f o linked made shown answer)
-if_linked (Err e) k s p ps t r w b f is live linked made shown answer = tt
+pub if_linked : (x : Result Outcome OutOfMemory) (k : Kept) (s : Bool) (p ps : Peers) (t : TreeOf) (r w : Track) (old new : ToldValues) (b : ℤ) (f : Option Refusal) → parts_kept s p t r old ≡ k → k.spent ≡ false → lacks_server p.me b ≡ false → (f, ps) ≡ peer_comes b p → w ≡ track_came f b r → new ≡ told_came f b (parts_kept false p t r old)
+    → IfOk x (λ o. o ≡ up_answer packet_form (parts_kept false ps t w new) b f) → IfOk x (λ o. ◌≡◌ {A = Taken} (record { outcome = o; kept = parts_kept false ps t w new }) (link_taken packet_form k b))
+if_linked (Ok o) k s p ps t r w old new b f is live linked made shown tells answer = by_parts (λ j. link_taken packet_form j b) (record { outcome = o; kept = parts_kept false ps t w new }) k s p t r old is live (link_is p ps t r w old new b f o linked made shown tells answer)
+if_linked (Err e) k s p ps t r w old new b f is live linked made shown tells answer = tt
 
 up_track : (me b : ℤ) (t : TreeOf) (r : Track) (f : Option Refusal) → AreRight me t r → AreRight me t (track_came f b r)
 up_track me b t r (Some e) h = h
@@ -182,19 +184,24 @@ newest {X} xs x = subst (λ n. slice_get (xs ++ x ∷ []) n ≡ Some x) (sym (co
     count : (ys : List X) → length (ys ++ x ∷ []) - 1 ≡ length ys
     count ys = omega (arith, length-append ys (x ∷ []))
 
-pub shows_newest : (k : Kept) (s : Bool) (p : Peers) (t : TreeOf) (r : Track) (row last : SpawnedRow) (shown : List ℤ) (packets : List Out) (o : Outcome) → parts_kept s p t r ≡ k → Some last ≡ Some row → shown ≡ shown_of last.num r.sights
+pub shows_newest : (k : Kept) (s : Bool) (p : Peers) (t : TreeOf) (r : Track) (old : ToldValues) (row last : SpawnedRow) (shown : List ℤ) (packets : List Out) (o : Outcome) → parts_kept s p t r old ≡ k → Some last ≡ Some row → shown ≡ shown_of last.num r.sights
     → packets ≡ shown_to_each packet_form t.scene t.nodes shown last → o ≡ done_with packets → o ≡ done_with (shows_of packet_form k row)
-shows_newest k s p t r row last shown packets o is same to packed done =
+shows_newest k s p t r old row last shown packets o is same to packed done =
     done ∙ ap done_with (packed ∙ ap (λ bs. shown_to_each packet_form t.scene t.nodes bs last) to)
     ∙ ap₂ (λ (j : Kept) (x : SpawnedRow). done_with (shows_of packet_form j x)) is (ap (λ x. or_else x last) same)
 
-spawned : (p : Peers) (t u : TreeOf) (r w : Track) (op : SpawnOp) (f : Option Refusal) (o : Outcome) → record { refused = f; track = w; tree = u } ≡ own_spawn p.me p.up op r t
-    → o ≡ spawn_answer packet_form (parts_kept false p u w) (own_made p.me t.scene r.next op) f
-    → record { outcome = o; kept = parts_kept false p u w } ≡ spawn_taken packet_form (parts_kept false p t r) op (own_spawn p.me p.up op r t)
-spawned p t u r w op f o made answer =
-    let same = with_nodes p t u r w (ap (λ (s : Spawned). s.tree.scene) made) in
-    ap₂ {C = Taken} (λ (x : Outcome) (j : Kept). record { outcome = x; kept = j }) (answer ∙ ap (λ j. spawn_answer packet_form j (own_made p.me t.scene r.next op) f) same) same
-    ∙ ap (spawn_taken packet_form (parts_kept false p t r) op) made
+spawned : (p : Peers) (t u : TreeOf) (r w : Track) (old new : ToldValues) (op : SpawnOp) (f : Option Refusal) (o : Outcome) → record { refused = f; track = w; tree = u } ≡ own_spawn p.me p.up op r t
+    → new ≡ spawn_told (parts_kept false p u w old) (own_made p.me t.scene r.next op) f
+    → o ≡ spawn_answer packet_form (parts_kept false p u w old) (own_made p.me t.scene r.next op) f
+    → record { outcome = o; kept = parts_kept false p u w new } ≡ spawn_taken packet_form (parts_kept false p t r old) op (own_spawn p.me p.up op r t)
+spawned p t u r w old new op f o made tells answer =
+    let k = parts_kept false p t r old in
+    let row = own_made p.me t.scene r.next op in
+    let scene = ap (λ (s : Spawned). s.tree.scene) made in
+    let same = with_nodes p t u r w old old scene in
+    ap₂ {C = Taken} (λ (x : Outcome) (j : Kept). record { outcome = x; kept = j }) (answer ∙ ap (λ j. spawn_answer packet_form j row f) same)
+        (with_nodes p t u r w old new scene ∙ ap (λ (d : ToldValues). record k { nodes = u.nodes; track = w; told = d }) (tells ∙ ap (λ j. spawn_told j row f) same))
+    ∙ ap (spawn_taken packet_form k op) made
 
 -- the row that a spawn makes is the newest
 pub newest_made : (p : Peers) (t u : TreeOf) (r w : Track) (op : SpawnOp) (f : Option Refusal) → record { refused = f; track = w; tree = u } ≡ own_spawn p.me p.up op r t → f ≡ None
@@ -204,10 +211,11 @@ newest_made p t u r w op f made is =
     (sym (ap (λ (s : Spawned). s.track.rows) made ∙ ap (λ g. (track_after p.me p.up t.scene op g r).rows) (sym (ap (λ (s : Spawned). s.refused) made) ∙ is)))
     (newest r.rows (own_made p.me t.scene r.next op))
 
-pub spawn_is : (p : Peers) (t u : TreeOf) (r w : Track) (op : SpawnOp) (f : Option Refusal) (o : Outcome) → record { refused = f; track = w; tree = u } ≡ own_spawn p.me p.up op r t → f ≡ None
-    → o ≡ done_with (shows_of packet_form (parts_kept false p u w) (own_made p.me t.scene r.next op))
-    → record { outcome = o; kept = parts_kept false p u w } ≡ spawn_taken packet_form (parts_kept false p t r) op (own_spawn p.me p.up op r t)
-spawn_is p t u r w op f o made is answer = spawned p t u r w op f o made (answer ∙ sym (ap (spawn_answer packet_form (parts_kept false p u w) (own_made p.me t.scene r.next op)) is))
+pub spawn_is : (p : Peers) (t u : TreeOf) (r w : Track) (old new : ToldValues) (op : SpawnOp) (f : Option Refusal) (o : Outcome) → record { refused = f; track = w; tree = u } ≡ own_spawn p.me p.up op r t → f ≡ None
+    → new ≡ spawn_told (parts_kept false p u w old) (own_made p.me t.scene r.next op) f
+    → o ≡ done_with (shows_of packet_form (parts_kept false p u w new) (own_made p.me t.scene r.next op))
+    → record { outcome = o; kept = parts_kept false p u w new } ≡ spawn_taken packet_form (parts_kept false p t r old) op (own_spawn p.me p.up op r t)
+spawn_is p t u r w old new op f o made is tells answer = spawned p t u r w old new op f o made tells (answer ∙ sym (ap (spawn_answer packet_form (parts_kept false p u w old) (own_made p.me t.scene r.next op)) is))
 
 -- a spawn, by the number and the peers that were given
 own_same : (p : Peers) (me : ℤ) (up : List ℤ) (op : SpawnOp) (r : Track) (t : TreeOf) → me ≡ p.me → up ≡ p.up → own_spawn me up op r t ≡ own_spawn p.me p.up op r t
@@ -229,22 +237,23 @@ hidden_right p t u r from net f made h = record { fits = subst (λ (x : Option F
 
 -- the same of a peer that isn't spent
 
-pub if_spawned : (x : Result Outcome OutOfMemory) (k : Kept) (s : Bool) (p : Peers) (t u : TreeOf) (r w : Track) (me : ℤ) (up : List ℤ) (op : SpawnOp) (f : Option Refusal) → parts_kept s p t r ≡ k → k.spent ≡ false → me ≡ p.me → up ≡ p.up
+pub if_spawned : (x : Result Outcome OutOfMemory) (k : Kept) (s : Bool) (p : Peers) (t u : TreeOf) (r w : Track) (old new : ToldValues) (me : ℤ) (up : List ℤ) (op : SpawnOp) (f : Option Refusal) → parts_kept s p t r old ≡ k → k.spent ≡ false → me ≡ p.me → up ≡ p.up
     → record { refused = f; track = w; tree = u } ≡ own_spawn me up op r t → f ≡ None
-    → ((row : SpawnedRow) → slice_get w.rows (length w.rows - 1) ≡ Some row → IfOk x (λ o. o ≡ done_with (shows_of packet_form (parts_kept false p u w) row)))
-    → IfOk x (λ o. ◌≡◌ {A = Taken} (record { outcome = o; kept = parts_kept false p u w }) (spawn_taken packet_form k op (own_spawn k.who.id k.peers.up op k.track (kept_tree k))))
-if_spawned (Ok o) k s p t u r w me up op f is live same ups made none answer =
+    → ((row : SpawnedRow) → slice_get w.rows (length w.rows - 1) ≡ Some row → new ≡ spawn_told (parts_kept false p u w old) row f)
+    → ((row : SpawnedRow) → slice_get w.rows (length w.rows - 1) ≡ Some row → IfOk x (λ o. o ≡ done_with (shows_of packet_form (parts_kept false p u w new) row)))
+    → IfOk x (λ o. ◌≡◌ {A = Taken} (record { outcome = o; kept = parts_kept false p u w new }) (spawn_taken packet_form k op (own_spawn k.who.id k.peers.up op k.track (kept_tree k))))
+if_spawned (Ok o) k s p t u r w old new me up op f is live same ups made none tells answer =
     let own = made ∙ own_same p me up op r t same ups in
-    by_parts (λ j. spawn_taken packet_form j op (own_spawn j.who.id j.peers.up op j.track (kept_tree j))) (record { outcome = o; kept = parts_kept false p u w }) k s p t r is live
-    (spawn_is p t u r w op f o own none (answer (own_made p.me t.scene r.next op) (newest_made p t u r w op f own none)))
-if_spawned (Err e) k s p t u r w me up op f is live same ups made none answer = tt
+    by_parts (λ j. spawn_taken packet_form j op (own_spawn j.who.id j.peers.up op j.track (kept_tree j))) (record { outcome = o; kept = parts_kept false p u w new }) k s p t r old is live
+    (spawn_is p t u r w old new op f o own none (tells (own_made p.me t.scene r.next op) (newest_made p t u r w op f own none)) (answer (own_made p.me t.scene r.next op) (newest_made p t u r w op f own none)))
+if_spawned (Err e) k s p t u r w old new me up op f is live same ups made none tells answer = tt
 
-pub spawn_no : (k : Kept) (s : Bool) (p : Peers) (t u : TreeOf) (r w : Track) (me : ℤ) (up : List ℤ) (op : SpawnOp) (f : Option Refusal) (e : Refusal) → parts_kept s p t r ≡ k → k.spent ≡ false → me ≡ p.me → up ≡ p.up
-    → record { refused = f; track = w; tree = u } ≡ own_spawn me up op r t → f ≡ Some e
-    → ◌≡◌ {A = Taken} (record { outcome = Refused e; kept = parts_kept false p u w }) (spawn_taken packet_form k op (own_spawn k.who.id k.peers.up op k.track (kept_tree k)))
-spawn_no k s p t u r w me up op f e is live same ups made why =
-    by_parts (λ j. spawn_taken packet_form j op (own_spawn j.who.id j.peers.up op j.track (kept_tree j))) (record { outcome = Refused e; kept = parts_kept false p u w }) k s p t r is live
-    (spawned p t u r w op f (Refused e) (made ∙ own_same p me up op r t same ups) (sym (ap (spawn_answer packet_form (parts_kept false p u w) (own_made p.me t.scene r.next op)) why)))
+pub spawn_no : (k : Kept) (s : Bool) (p : Peers) (t u : TreeOf) (r w : Track) (old new : ToldValues) (me : ℤ) (up : List ℤ) (op : SpawnOp) (f : Option Refusal) (e : Refusal) → parts_kept s p t r old ≡ k → k.spent ≡ false → me ≡ p.me → up ≡ p.up
+    → record { refused = f; track = w; tree = u } ≡ own_spawn me up op r t → f ≡ Some e → new ≡ old
+    → ◌≡◌ {A = Taken} (record { outcome = Refused e; kept = parts_kept false p u w new }) (spawn_taken packet_form k op (own_spawn k.who.id k.peers.up op k.track (kept_tree k)))
+spawn_no k s p t u r w old new me up op f e is live same ups made why tells =
+    by_parts (λ j. spawn_taken packet_form j op (own_spawn j.who.id j.peers.up op j.track (kept_tree j))) (record { outcome = Refused e; kept = parts_kept false p u w new }) k s p t r old is live
+    (spawned p t u r w old new op f (Refused e) (made ∙ own_same p me up op r t same ups) (tells ∙ sym (ap (spawn_told (parts_kept false p u w old) (own_made p.me t.scene r.next op)) why)) (sym (ap (spawn_answer packet_form (parts_kept false p u w old) (own_made p.me t.scene r.next op)) why)))
 
 -- an own despawn
 
@@ -252,24 +261,28 @@ despawned_scene : (path : List ℕ) (num : ℕ) (r : Track) (t : TreeOf) (f : Op
 despawned_scene path num r t (Some e) = refl
 despawned_scene path num r t None = refl
 
-despawned : (p : Peers) (t : TreeOf) (r : Track) (me : ℤ) (path : List ℕ) (d : Despawned) → me ≡ p.me → d ≡ own_despawn me path r t
-    → record { outcome = despawn_answer packet_form d; kept = parts_kept false p d.tree d.track } ≡ despawn_taken packet_form (parts_kept false p t r) (own_despawn p.me path r t)
-despawned p t r me path d own made =
+despawned_num : (path : List ℕ) (num : ℕ) (r : Track) (t : TreeOf) (f : Option Refusal) → (despawned_by path num r t f).num ≡ num
+despawned_num path num r t (Some e) = refl
+despawned_num path num r t None = refl
+
+despawned : (p : Peers) (t : TreeOf) (r : Track) (old new : ToldValues) (me : ℤ) (path : List ℕ) (d : Despawned) → me ≡ p.me → d ≡ own_despawn me path r t → new ≡ hidden_from_all (ids_with d.num r.rows) d.shown old
+    → record { outcome = despawn_answer packet_form d; kept = parts_kept false p d.tree d.track new } ≡ despawn_taken packet_form (parts_kept false p t r old) (own_despawn p.me path r t)
+despawned p t r old new me path d own made tells =
     let same = made ∙ ap (λ (m : ℤ). own_despawn m path r t) own in
     let scene = ap (λ (x : Despawned). x.tree.scene) same ∙ despawned_scene path (number_at t.nodes path) r t (despawn_judged (who_at p.me t.scene) t.nodes path) in
-    ap {B = Taken} (λ (j : Kept). record { outcome = despawn_answer packet_form d; kept = j }) (with_nodes p t d.tree r d.track scene)
-    ∙ ap (despawn_taken packet_form (parts_kept false p t r)) same
+    ap {B = Taken} (λ (j : Kept). record { outcome = despawn_answer packet_form d; kept = j }) (with_nodes p t d.tree r d.track old new scene ∙ ap (λ (x : ToldValues). record (parts_kept false p t r old) { nodes = d.tree.nodes; track = d.track; told = x }) tells)
+    ∙ ap (despawn_taken packet_form (parts_kept false p t r old)) same
 
 pub despawn_right : (p : Peers) (t : TreeOf) (r : Track) (me : ℤ) (path : List ℕ) (d : Despawned) → me ≡ p.me → d ≡ own_despawn me path r t → AreRight p.me t r → AreRight p.me d.tree d.track
 despawn_right p t r me path d own made h =
     subst (λ (x : Despawned). AreRight p.me x.tree x.track) (sym (made ∙ ap (λ (m : ℤ). own_despawn m path r t) own))
     (record { fits = fits_despawn p.me path t r h.fits; tracked = tracked_despawn p.me path r t h.tracked })
 
-pub despawn_is : (k : Kept) (s : Bool) (p : Peers) (t : TreeOf) (r : Track) (me : ℤ) (path : List ℕ) (d : Despawned) (o : Outcome) → parts_kept s p t r ≡ k → k.spent ≡ false → me ≡ p.me → d ≡ own_despawn me path r t → o ≡ despawn_answer packet_form d
-    → ◌≡◌ {A = Taken} (record { outcome = o; kept = parts_kept false p d.tree d.track }) (despawn_taken packet_form k (own_despawn k.who.id path k.track (kept_tree k)))
-despawn_is k s p t r me path d o is live own made answer =
-    by_parts (λ j. despawn_taken packet_form j (own_despawn j.who.id path j.track (kept_tree j))) (record { outcome = o; kept = parts_kept false p d.tree d.track }) k s p t r is live
-    (ap {B = Taken} (λ (x : Outcome). record { outcome = x; kept = parts_kept false p d.tree d.track }) answer ∙ despawned p t r me path d own made)
+pub despawn_is : (k : Kept) (s : Bool) (p : Peers) (t : TreeOf) (r : Track) (old new : ToldValues) (me : ℤ) (path : List ℕ) (d : Despawned) (o : Outcome) → parts_kept s p t r old ≡ k → k.spent ≡ false → me ≡ p.me → d ≡ own_despawn me path r t → new ≡ hidden_from_all (ids_with d.num r.rows) d.shown old → o ≡ despawn_answer packet_form d
+    → ◌≡◌ {A = Taken} (record { outcome = o; kept = parts_kept false p d.tree d.track new }) (despawn_taken packet_form k (own_despawn k.who.id path k.track (kept_tree k)))
+despawn_is k s p t r old new me path d o is live own made tells answer =
+    by_parts (λ j. despawn_taken packet_form j (own_despawn j.who.id path j.track (kept_tree j))) (record { outcome = o; kept = parts_kept false p d.tree d.track new }) k s p t r old is live
+    (ap {B = Taken} (λ (x : Outcome). record { outcome = x; kept = parts_kept false p d.tree d.track new }) answer ∙ despawned p t r old new me path d own made tells)
 
 -- the same, by what the call answers
 
@@ -277,15 +290,17 @@ pub despawn_kept : (x : Result Gone Refusal) (p : Peers) (t u : TreeOf) (r w : T
 despawn_kept (Ok g) p t u r w me path own made h = despawn_right p t r me path (record { refused = None; num = g.num; shown = g.shown.items; track = w; tree = u }) own made h
 despawn_kept (Err e) p t u r w me path own made h = despawn_right p t r me path (record { refused = Some e; num = number_at t.nodes path; shown = []; track = w; tree = u }) own made h
 
-pub if_despawned : (y : Result Outcome OutOfMemory) (x : Result Gone Refusal) (k : Kept) (s : Bool) (p : Peers) (t u : TreeOf) (r w : Track) (me : ℤ) (path : List ℕ) → parts_kept s p t r ≡ k → k.spent ≡ false → me ≡ p.me → IsDespawned (own_despawn me path r t) (number_at t.nodes path) w u x
-    → IfOk y (λ o. o ≡ gone_answer x) → IfOk y (λ o. ◌≡◌ {A = Taken} (record { outcome = o; kept = parts_kept s p u w }) (despawn_taken packet_form k (own_despawn k.who.id path k.track (kept_tree k))))
-if_despawned (Err e) x k s p t u r w me path is live own made answer = tt
-if_despawned (Ok o) x k s p t u r w me path is live own made answer =
-    ap {B = Taken} (λ (b : Bool). record { outcome = o; kept = parts_kept b p u w }) (ap (λ (j : Kept). j.spent) is ∙ live) ∙ by x made answer
+pub if_despawned : (y : Result Outcome OutOfMemory) (x : Result Gone Refusal) (k : Kept) (s : Bool) (p : Peers) (t u : TreeOf) (r w : Track) (old new : ToldValues) (me : ℤ) (path : List ℕ) → parts_kept s p t r old ≡ k → k.spent ≡ false → me ≡ p.me → IsDespawned (own_despawn me path r t) (number_at t.nodes path) w u x → new ≡ gone_told (ids_with (number_at t.nodes path) r.rows) x old
+    → IfOk y (λ o. o ≡ gone_answer x) → IfOk y (λ o. ◌≡◌ {A = Taken} (record { outcome = o; kept = parts_kept s p u w new }) (despawn_taken packet_form k (own_despawn k.who.id path k.track (kept_tree k))))
+if_despawned (Err e) x k s p t u r w old new me path is live own made tells answer = tt
+if_despawned (Ok o) x k s p t u r w old new me path is live own made tells answer =
+    ap {B = Taken} (λ (b : Bool). record { outcome = o; kept = parts_kept b p u w new }) (ap (λ (j : Kept). j.spent) is ∙ live) ∙ by x made tells answer
   where
-    by : (z : Result Gone Refusal) → IsDespawned (own_despawn me path r t) (number_at t.nodes path) w u z → o ≡ gone_answer z → ◌≡◌ {A = Taken} (record { outcome = o; kept = parts_kept false p u w }) (despawn_taken packet_form k (own_despawn k.who.id path k.track (kept_tree k)))
-    by (Ok g) m a = despawn_is k s p t r me path (record { refused = None; num = g.num; shown = g.shown.items; track = w; tree = u }) o is live own m a
-    by (Err e) m a = despawn_is k s p t r me path (record { refused = Some e; num = number_at t.nodes path; shown = []; track = w; tree = u }) o is live own m a
+    by : (z : Result Gone Refusal) → IsDespawned (own_despawn me path r t) (number_at t.nodes path) w u z → new ≡ gone_told (ids_with (number_at t.nodes path) r.rows) z old → o ≡ gone_answer z → ◌≡◌ {A = Taken} (record { outcome = o; kept = parts_kept false p u w new }) (despawn_taken packet_form k (own_despawn k.who.id path k.track (kept_tree k)))
+    by (Ok g) m q a =
+        let num = ap (λ (d : Despawned). d.num) m ∙ despawned_num path (number_at t.nodes path) r t (despawn_judged (who_at me t.scene) t.nodes path) in
+        despawn_is k s p t r old new me path (record { refused = None; num = g.num; shown = g.shown.items; track = w; tree = u }) o is live own m (q ∙ ap (λ n. hidden_from_all (ids_with n r.rows) g.shown.items old) (sym num)) a
+    by (Err e) m q a = despawn_is k s p t r old new me path (record { refused = Some e; num = number_at t.nodes path; shown = []; track = w; tree = u }) o is live own m q a
 
 -- a setting of visibility
 
@@ -306,12 +321,25 @@ own_shifts k path v = by (is_row (live_at k.nodes path))
     by true = refl
     by false = refl
 
-sighted : (p : Peers) (t : TreeOf) (r w : Track) (me : ℤ) (up : List ℤ) (path : List ℕ) (n : ℕ) (c : SightChange) (f : Option Refusal) (o : Outcome) → me ≡ p.me → up ≡ p.up
-    → record { refused = f; track = w } ≡ own_sighted me up path n c r t → o ≡ answer_by f (sight_shifts packet_form (parts_kept false p t r) path w.sights)
-    → record { outcome = o; kept = parts_kept false p t w } ≡ sight_taken packet_form (parts_kept false p t r) path (own_sighted p.me p.up path n c r t)
-sighted p t r w me up path n c f o own ups made answer =
-    ap {B = Taken} (λ (x : Outcome). record { outcome = x; kept = parts_kept false p t w }) answer
-    ∙ ap (sight_taken packet_form (parts_kept false p t r) path) (made ∙ ap₂ (λ (m : ℤ) (bs : List ℤ). own_sighted m bs path n c r t) own ups)
+-- what was told of a row, by those to which it was shown before
+shifted_is : (k : Kept) (w : Track) (q : Option SpawnedRow) → shift_told (kept_tree k) k.peers.up w (shown_before k q) q k.told ≡ told_row k w.sights q
+shifted_is k w None = refl
+shifted_is k w (Some q) = refl
+
+own_told : (k : Kept) (path : List ℕ) (v : Sights) → told_row k v (own_row k path) ≡ sight_told k path v None
+own_told k path v = by (is_row (live_at k.nodes path))
+  where
+    by : (b : Bool) → told_row k v (option_and_then (λ num. row_with num k.track.rows) (if b then Some (number_at k.nodes path) else None))
+        ≡ (if b then told_row k v (row_with (number_at k.nodes path) k.track.rows) else k.told)
+    by true = refl
+    by false = refl
+
+sighted : (p : Peers) (t : TreeOf) (r w : Track) (old new : ToldValues) (me : ℤ) (up : List ℤ) (path : List ℕ) (n : ℕ) (c : SightChange) (f : Option Refusal) (o : Outcome) → me ≡ p.me → up ≡ p.up
+    → record { refused = f; track = w } ≡ own_sighted me up path n c r t → new ≡ sight_told (parts_kept false p t r old) path w.sights f → o ≡ answer_by f (sight_shifts packet_form (parts_kept false p t r old) path w.sights)
+    → record { outcome = o; kept = parts_kept false p t w new } ≡ sight_taken packet_form (parts_kept false p t r old) path (own_sighted p.me p.up path n c r t)
+sighted p t r w old new me up path n c f o own ups made tells answer =
+    ap₂ {C = Taken} (λ (x : Outcome) (d : ToldValues). record { outcome = x; kept = parts_kept false p t w d }) answer tells
+    ∙ ap (sight_taken packet_form (parts_kept false p t r old) path) (made ∙ ap₂ (λ (m : ℤ) (bs : List ℤ). own_sighted m bs path n c r t) own ups)
 
 pub sight_right : (p : Peers) (t : TreeOf) (r w : Track) (me : ℤ) (up : List ℤ) (path : List ℕ) (n : ℕ) (c : SightChange) (f : Option Refusal) → record { refused = f; track = w } ≡ own_sighted me up path n c r t → AreRight p.me t r → AreRight p.me t w
 sight_right p t r w me up path n c f made h =
@@ -324,25 +352,32 @@ sight_right p t r w me up path n c f made h =
       tracked = tracked_set up path n c r t h.tracked;
     }
 
-pub sight_no : (k : Kept) (s : Bool) (p : Peers) (t : TreeOf) (r w : Track) (me : ℤ) (up : List ℤ) (path : List ℕ) (n : ℕ) (c : SightChange) (f : Option Refusal) (e : Refusal) → parts_kept s p t r ≡ k → k.spent ≡ false → me ≡ p.me → up ≡ p.up
-    → record { refused = f; track = w } ≡ own_sighted me up path n c r t → f ≡ Some e
-    → ◌≡◌ {A = Taken} (record { outcome = Refused e; kept = parts_kept false p t w }) (sight_taken packet_form k path (own_sighted k.who.id k.peers.up path n c k.track (kept_tree k)))
-sight_no k s p t r w me up path n c f e is live own ups made why =
-    by_parts (λ j. sight_taken packet_form j path (own_sighted j.who.id j.peers.up path n c j.track (kept_tree j))) (record { outcome = Refused e; kept = parts_kept false p t w }) k s p t r is live
-    (sighted p t r w me up path n c f (Refused e) own ups made (sym (ap (λ g. answer_by g (sight_shifts packet_form (parts_kept false p t r) path w.sights)) why)))
+pub sight_no : (k : Kept) (s : Bool) (p : Peers) (t : TreeOf) (r w : Track) (old new : ToldValues) (me : ℤ) (up : List ℤ) (path : List ℕ) (n : ℕ) (c : SightChange) (f : Option Refusal) (e : Refusal) → parts_kept s p t r old ≡ k → k.spent ≡ false → me ≡ p.me → up ≡ p.up
+    → record { refused = f; track = w } ≡ own_sighted me up path n c r t → f ≡ Some e → new ≡ old
+    → ◌≡◌ {A = Taken} (record { outcome = Refused e; kept = parts_kept false p t w new }) (sight_taken packet_form k path (own_sighted k.who.id k.peers.up path n c k.track (kept_tree k)))
+sight_no k s p t r w old new me up path n c f e is live own ups made why tells =
+    by_parts (λ j. sight_taken packet_form j path (own_sighted j.who.id j.peers.up path n c j.track (kept_tree j))) (record { outcome = Refused e; kept = parts_kept false p t w new }) k s p t r old is live
+    (sighted p t r w old new me up path n c f (Refused e) own ups made (tells ∙ sym (ap (sight_told (parts_kept false p t r old) path w.sights) why)) (sym (ap (λ g. answer_by g (sight_shifts packet_form (parts_kept false p t r old) path w.sights)) why)))
 
-pub if_sighted : (x : Result Outcome OutOfMemory) (k : Kept) (s : Bool) (p : Peers) (t : TreeOf) (r w : Track) (me : ℤ) (up : List ℤ) (path : List ℕ) (n : ℕ) (c : SightChange) (f : Option Refusal) (before given : List ℤ) → parts_kept s p t r ≡ k → k.spent ≡ false → me ≡ p.me → up ≡ p.up
+pub if_sighted : (x : Result Outcome OutOfMemory) (k : Kept) (s : Bool) (p : Peers) (t : TreeOf) (r w : Track) (old new : ToldValues) (me : ℤ) (up : List ℤ) (path : List ℕ) (n : ℕ) (c : SightChange) (f : Option Refusal) (before given : List ℤ) → parts_kept s p t r old ≡ k → k.spent ≡ false → me ≡ p.me → up ≡ p.up
     → record { refused = f; track = w } ≡ own_sighted me up path n c r t → f ≡ None → given ≡ before → before ≡ shown_before k (own_row k path)
-    → IfOk x (λ o. o ≡ done_with (row_told packet_form (parts_kept false p t w) given (own_row (parts_kept false p t w) path)))
-    → IfOk x (λ o. ◌≡◌ {A = Taken} (record { outcome = o; kept = parts_kept false p t w }) (sight_taken packet_form k path (own_sighted k.who.id k.peers.up path n c k.track (kept_tree k))))
-if_sighted (Err e) k s p t r w me up path n c f before given is live own ups made none same shown answer = tt
-if_sighted (Ok o) k s p t r w me up path n c f before given is live own ups made none same shown answer =
-    by_parts (λ j. sight_taken packet_form j path (own_sighted j.who.id j.peers.up path n c j.track (kept_tree j))) (record { outcome = o; kept = parts_kept false p t w }) k s p t r is live
-    (sighted p t r w me up path n c f o own ups made
+    → new ≡ shift_told t p.up w given (row_at t.nodes path w.rows) old
+    → IfOk x (λ o. o ≡ done_with (row_told packet_form (parts_kept false p t w new) given (own_row (parts_kept false p t w new) path)))
+    → IfOk x (λ o. ◌≡◌ {A = Taken} (record { outcome = o; kept = parts_kept false p t w new }) (sight_taken packet_form k path (own_sighted k.who.id k.peers.up path n c k.track (kept_tree k))))
+if_sighted (Err e) k s p t r w old new me up path n c f before given is live own ups made none same shown tells answer = tt
+if_sighted (Ok o) k s p t r w old new me up path n c f before given is live own ups made none same shown tells answer =
+    let first = same ∙ shown ∙ sym (ap (λ (j : Kept). shown_before j (own_row j path)) is) in
+    let rows = ap (λ (x : Sighted). x.track.rows) made ∙ sighted_rows up path n c r t (sight_judged (who_at me t.scene) t.nodes path n (some_is c.is_full (sight_at r.sights (live_at t.nodes path) path n))) in
+    by_parts (λ j. sight_taken packet_form j path (own_sighted j.who.id j.peers.up path n c j.track (kept_tree j))) (record { outcome = o; kept = parts_kept false p t w new }) k s p t r old is live
+    (sighted p t r w old new me up path n c f o own ups made
+    (tells
+    ∙ ap₂ (λ bs rows. shift_told t p.up w bs (row_at t.nodes path rows) old) first rows
+    ∙ shifted_is (parts_kept false p t r old) w (own_row (parts_kept false p t r old) path) ∙ own_told (parts_kept false p t r old) path w.sights
+    ∙ sym (ap (sight_told (parts_kept false p t r old) path w.sights) none))
     (answer
-    ∙ ap₂ (λ bs rows. done_with (row_told packet_form (parts_kept false p t w) bs (row_at t.nodes path rows))) (same ∙ shown ∙ sym (ap (λ (j : Kept). shown_before j (own_row j path)) is)) (ap (λ (x : Sighted). x.track.rows) made ∙ sighted_rows up path n c r t (sight_judged (who_at me t.scene) t.nodes path n (some_is c.is_full (sight_at r.sights (live_at t.nodes path) path n))))
-    ∙ ap done_with (told_is (parts_kept false p t r) w (shown_before (parts_kept false p t r) (own_row (parts_kept false p t r) path)) (own_row (parts_kept false p t r) path) refl ∙ own_shifts (parts_kept false p t r) path w.sights)
-    ∙ sym (ap (λ g. answer_by g (sight_shifts packet_form (parts_kept false p t r) path w.sights)) none)))
+    ∙ ap₂ (λ bs qs. done_with (row_told packet_form (parts_kept false p t w new) bs (row_at t.nodes path qs))) first rows
+    ∙ ap done_with (told_is (parts_kept false p t r old) w (shown_before (parts_kept false p t r old) (own_row (parts_kept false p t r old) path)) (own_row (parts_kept false p t r old) path) refl ∙ own_shifts (parts_kept false p t r old) path w.sights)
+    ∙ sym (ap (λ g. answer_by g (sight_shifts packet_form (parts_kept false p t r old) path w.sights)) none)))
 
 -- a received packet
 
@@ -356,11 +391,11 @@ pub if_read : (x : Result Outcome OutOfMemory) (after k : Kept) (from : ℤ) (m 
 if_read x after k from m r is h = if_same x after _ _ (ap (read_taken k from) (sym is)) h
 
 -- what is told of the own row at a path
-pub told_here : (k : Kept) (s : Bool) (p : Peers) (t : TreeOf) (r : Track) (path : List ℕ) (row : SpawnedRow) (before after up : List ℤ) (packets : List Out) (o : Outcome) → parts_kept s p t r ≡ k → Some row ≡ row_at t.nodes path r.rows → after ≡ shown_of row.num r.sights → up ≡ p.up
+pub told_here : (k : Kept) (s : Bool) (p : Peers) (t : TreeOf) (r : Track) (old : ToldValues) (path : List ℕ) (row : SpawnedRow) (before after up : List ℤ) (packets : List Out) (o : Outcome) → parts_kept s p t r old ≡ k → Some row ≡ row_at t.nodes path r.rows → after ≡ shown_of row.num r.sights → up ≡ p.up
     → packets ≡ shifts packet_form (row_packet t.scene t.nodes row) row.num before after up → o ≡ done_with packets → o ≡ done_with (row_told packet_form k before (own_row k path))
-told_here k s p t r path row before after up packets o is there seen ups packed done =
+told_here k s p t r old path row before after up packets o is there seen ups packed done =
     done
-    ∙ ap done_with (packed ∙ ap₂ (λ bs us. shifts packet_form (row_packet t.scene t.nodes row) row.num before bs us) seen ups ∙ ap (row_told packet_form (parts_kept s p t r) before) there)
+    ∙ ap done_with (packed ∙ ap₂ (λ bs us. shifts packet_form (row_packet t.scene t.nodes row) row.num before bs us) seen ups ∙ ap (row_told packet_form (parts_kept s p t r old) before) there)
     ∙ ap (λ j. done_with (row_told packet_form j before (own_row j path))) is
 
 -- what holds of all rows holds of one
@@ -438,6 +473,6 @@ new_right p t r id s valid peers tree track =
     subst (λ (q : Peers). AreRight q.me t r) (sym peers) (subst (λ (u : TreeOf). AreRight id u r) (sym tree) (subst (λ (w : Track). AreRight id (kept_tree (new_peer s id)) w) (sym track)
     (record { fits = fits_start id s valid; tracked = tracked_start s id })))
 
-pub new_stands : (p : Peers) (t : TreeOf) (r : Track) (id : ℤ) (s : Scene) → IsValidScene s → p ≡ no_peers id → t ≡ kept_tree (new_peer s id) → r ≡ first_track s id → StandsFor packet_form (parts_kept false p t r) []
-new_stands p t r id s valid peers tree track =
-    subst (λ k. StandsFor packet_form k []) (sym (ap₂ (λ (q : Peers) (u : TreeOf). parts_kept false q u r) peers tree ∙ ap (λ (w : Track). parts_kept false (no_peers id) (kept_tree (new_peer s id)) w) track)) (start_stands packet_form s id valid)
+pub new_stands : (p : Peers) (t : TreeOf) (r : Track) (old : ToldValues) (id : ℤ) (s : Scene) → IsValidScene s → p ≡ no_peers id → t ≡ kept_tree (new_peer s id) → r ≡ first_track s id → old ≡ [] → StandsFor packet_form (parts_kept false p t r old) []
+new_stands p t r old id s valid peers tree track told =
+    subst (λ k. StandsFor packet_form k []) (sym (ap₂ (λ (q : Peers) (u : TreeOf). parts_kept false q u r old) peers tree ∙ ap₂ (λ (w : Track) (d : ToldValues). parts_kept false (no_peers id) (kept_tree (new_peer s id)) w d) track told)) (start_stands packet_form s id valid)

@@ -1,8 +1,9 @@
 -- How the packets of this project are read and written.
-use Rattle.std.specs.Prelude.{ℕ, List}
+use Rattle.std.specs.Prelude.{ℕ, List, [], ◌∷◌}
+use Rattle.gd_variant.specs.declared.message.DeltaEntry.{DeltaEntry}
 use Rattle.gd_variant.specs.declared.message.Message.TheVariants.{Plain as plain_packet}
 use Rattle.gd_variant.specs.declared.message.Plain.{Plain}
-use Rattle.gd_variant.specs.declared.message.Plain.TheVariants.{Despawn}
+use Rattle.gd_variant.specs.declared.message.Plain.TheVariants.{Delta, Despawn}
 use Rattle.headless_tree.specs.Nodes.{TreeOf}
 use Rattle.peer_steps.specs.Steps.{row_packet}
 use Rattle.peer_steps.specs.declared.rows.SpawnedRow.{SpawnedRow}
@@ -17,6 +18,10 @@ packet_form = record { read_packet = read_packet; written_packet = written_packe
 -- the packet that hides a row
 abbrev pub despawn_packet : ℕ → Plain
 despawn_packet num = Despawn num
+
+-- the packet that tells values of one synchronizer
+abbrev pub entry_packet : DeltaEntry → Plain
+entry_packet e = Delta (e ∷ [])
 
 -- the bytes of the packet that shows a row
 abbrev pub shown_bytes : TreeOf → SpawnedRow → List ℕ

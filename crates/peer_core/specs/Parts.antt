@@ -1,6 +1,8 @@
 -- What a peer keeps, by its parts.
-use Rattle.std.specs.Prelude.{ℕ, ℤ, Bool, List, [], ◌∷◌, map, slice_get, Option, Some, None, option_map, Result, Ok, Err, if◌then◌else◌}
+use Rattle.std.specs.Prelude.{ℕ, ℤ, Bool, ◌&&◌, List, [], ◌∷◌, ◌++◌, length, nat_le, map, slice_get, Option, Some, None, option_map, Result, Ok, Err, if◌then◌else◌}
+use Rattle.std.specs.List.{list_all}
 use Rattle.gd_variant.specs.Words.{or_else, some_is}
+use Rattle.gd_variant.specs.declared.message.DeltaEntry.{DeltaEntry}
 use Rattle.scene_model.specs.declared.scene.Scene.{Scene}
 use Rattle.scene_model.specs.declared.outcome.Out.{Out}
 use Rattle.scene_model.specs.declared.outcome.Outcome.{Outcome}
@@ -13,19 +15,22 @@ use Rattle.peer_steps.specs.Peers.{Peers}
 use Rattle.peer_steps.specs.Track.{Track}
 use Rattle.peer_steps.specs.Kept.{Kept}
 use Rattle.peer_steps.specs.Fits.{Fits}
-use Rattle.peer_steps.specs.Steps.{RowNews, appears, disappears, done_with, row_packet, sent_to, shifts}
+use Rattle.peer_steps.specs.Rights.{is_right_value}
+use Rattle.peer_steps.specs.Steps.{RowNews, appears, disappears, changes, done_with, entries_to, row_packet, sent_to, shifts, with_packets}
 use Rattle.peer_steps.specs.Track.{shown_of}
+use Rattle.peer_steps.specs.Tellings.{frame_to, hidden_from_all, told_shifts}
+use Rattle.delta_props.specs.Telling.{ToldValues}
 use Rattle.peer_steps.specs.declared.rows.SpawnedRow.{SpawnedRow}
 use Rattle.spawn_track.specs.Numbers.{IsTracked, row_at}
 use Rattle.sight_laws.specs.Sights.{RowSight, row_sees}
 use Rattle.spawn_track.specs.declared.track.Gone.{Gone}
 use Rattle.peer_core.specs.Forms.{packet_form, despawn_packet}
 use Rattle.peer_core.specs.declared.messages.RowNews.{RowNews as NewsOf}
-use Rattle.peer_core.specs.declared.messages.RowNews.TheVariants.{Appears, Disappears}
+use Rattle.peer_core.specs.declared.messages.RowNews.TheVariants.{Appears, Disappears, Changes}
 
 -- what a peer with these parts keeps
-abbrev pub parts_kept : Bool → Peers → TreeOf → Track → Kept
-parts_kept spent peers tree track = record { who = record { id = peers.me; scene = tree.scene }; spent = spent; peers = peers; nodes = tree.nodes; track = track }
+abbrev pub parts_kept : Bool → Peers → TreeOf → Track → ToldValues → Kept
+parts_kept spent peers tree track told = record { who = record { id = peers.me; scene = tree.scene }; spent = spent; peers = peers; nodes = tree.nodes; track = track; told = told }
 
 -- what holds of the parts of a peer: they fit, and own rows stand by number
 pub record AreRight (me : ℤ) (tree : TreeOf) (track : Track) : Type 0 where
@@ -36,6 +41,7 @@ pub record AreRight (me : ℤ) (tree : TreeOf) (track : Track) : Type 0 where
 abbrev pub news_of : NewsOf → RowNews
 news_of (Appears m) = appears m
 news_of (Disappears net) = disappears net
+news_of (Changes entries) = changes entries
 
 -- the own row whose node stands at a path
 abbrev pub own_row : Kept → List ℕ → Option SpawnedRow
@@ -63,3 +69,27 @@ as_list None = []
 abbrev pub gone_answer : Result Gone Refusal → Outcome
 gone_answer (Ok g) = done_with (map (λ b. sent_to packet_form b (despawn_packet g.num)) g.shown.items)
 gone_answer (Err e) = Refused e
+
+-- what was told after a despawn of a row whose synchronizers have these ids
+abbrev pub gone_told : List ℕ → Result Gone Refusal → ToldValues → ToldValues
+gone_told ids (Ok g) told = hidden_from_all ids g.shown.items told
+gone_told ids (Err e) told = told
+
+-- what was told of a row, by those to which it was shown before and, in these parts, is shown then
+abbrev pub shift_told : TreeOf → List ℤ → Track → List ℤ → Option SpawnedRow → ToldValues → ToldValues
+shift_told t up w before None told = told
+shift_told t up w before (Some r) told = told_shifts t.scene t.nodes r before (shown_of r.num w.sights) up told
+
+-- whether the packet of an entry can be written: at most 64 values, each of them right
+abbrev pub is_right_entry : DeltaEntry → Bool
+is_right_entry e = nat_le (length e.values) 64 && list_all is_right_value e.values
+
+-- packets so far with those of entries for a peer, and what was told then
+abbrev pub entries_told : PacketForm → ℤ → List Out → List DeltaEntry × ToldValues → List Out × ToldValues
+entries_told form b out r = (out ++ entries_to form b r.0, r.1)
+
+-- what a frame tells some peers in order, and what was told then
+abbrev pub frame_parts : PacketForm → TreeOf → Track → List ℤ → ToldValues → List Out × ToldValues
+frame_parts form tree track [] told = ([], told)
+frame_parts form tree track (b ∷ bs) told =
+    with_packets (entries_to form b (frame_to tree.scene tree.nodes track b told).0) (frame_parts form tree track bs (frame_to tree.scene tree.nodes track b told).1)

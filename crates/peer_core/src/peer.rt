@@ -16,6 +16,7 @@ mod operating;
 mod receiving;
 
 use crate::reporting::report_with;
+use delta_props::Told;
 use gd_variant::OutOfMemory;
 use headless_tree::Tree;
 use relay_sys::Peers;
@@ -33,8 +34,8 @@ pub enum Stop {
     Spent,
 }
 
-/// One peer over any valid scene, made of parts: the other peers, the nodes, and its own rows
-/// with who sees them.
+/// One peer over any valid scene, made of parts: the other peers, the nodes, its own rows with who
+/// sees them, and the values that each peer was told.
 ///
 /// It takes events one after the other. After want of memory it is spent, and says so from then on.
 /// `spent` stands while a part is written, so that a part left half made is never read.
@@ -44,6 +45,7 @@ pub struct Peer {
     peers: Peers,
     tree: Tree,
     track: Track,
+    told: Told,
 }
 
 impl Model for Peer {
@@ -57,7 +59,7 @@ impl Model for Peer {
 
     ghost coded = { Prim.hlevel (codes, variant.the_row.coded) };
 
-    ghost view = { λ p. parts_kept p.spent p.peers p.tree p.track };
+    ghost view = { λ p. parts_kept p.spent p.peers p.tree p.track p.told };
 
     ghost invariant = { λ p. p.spent ≡ false → AreRight p.peers.me p.tree p.track };
 }
@@ -77,6 +79,7 @@ impl Peer {
             peers: Peers::new(alloc, id),
             tree,
             track,
+            told: Told::new(alloc),
         })
     }
 

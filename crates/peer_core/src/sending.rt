@@ -3,23 +3,21 @@ ghost use Rattle.std.specs.Prelude.{◌≡◌, ◌∷◌, [], ◌++◌, true, So
 ghost use Rattle.std.specs.List.{list_all};
 ghost use Rattle.std.specs.Option.{option_copied};
 ghost use Rattle.gd_variant.specs.Words.{has_int, or_else};
-ghost use Rattle.gd_variant.specs.declared.value.Variant.TheVariants.{Nil as nil_value};
 ghost use Rattle.gd_variant.specs.declared.message.Message.TheVariants.{Plain as plain_packet};
 ghost use Rattle.packet_form.specs.Written.{written_packet};
 ghost use Rattle.scene_model.specs.Valid.{IsValidScene};
 ghost use Rattle.scene_model.specs.Syncs.{spawn_props};
 ghost use Rattle.peer_model.specs.Rows.{syncs_at};
 ghost use Rattle.peer_model.specs.Updates.{all_spawn_props};
-ghost use Rattle.headless_tree.specs.Nodes.{value_at};
 ghost use Rattle.peer_laws.specs.Shown.{values_in};
 ghost use Rattle.peer_steps.specs.Rights.{has_right_values, is_right_row};
-ghost use Rattle.peer_steps.specs.Steps.{row_packet, sent_to, shift_to, shifts};
+ghost use Rattle.peer_steps.specs.Steps.{entries_to, row_packet, sent_to, shift_to, shifts};
 ghost use Rattle.peer_steps.specs.Track.{seen_by};
-ghost use Rattle.peer_core.specs.Parts.{as_list, seen_at};
-ghost use Rattle.peer_core.specs.Forms.{packet_form, despawn_packet, shown_bytes};
+ghost use Rattle.peer_core.specs.Parts.{as_list, is_right_entry, seen_at};
+ghost use Rattle.peer_core.specs.Forms.{packet_form, despawn_packet, entry_packet, shown_bytes};
 ghost use Rattle.peer_steps.specs.Calls.{shown_to_each};
 
-use gd_variant::{Bytes, Message, OutOfMemory, Plain, Text, ValueList, Variant};
+use gd_variant::{Bytes, DeltaEntry, DeltaList, Message, OutOfMemory, Plain, Text, ValueList};
 use headless_tree::Tree;
 use packet_codec::encode_packet;
 use peer_steps::SpawnedRow;
@@ -27,15 +25,7 @@ use scene_model::{Class, Out, OutList, SyncDef};
 use spawn_track::{Track, copy_argument, path_id, syncs_of};
 use sqlite_items::{Items, at as item_at};
 use std::alloc::Global;
-
-fn value_of(alloc: Global, tree: &Tree, path: &Text, prop: &Text) -> Result<Variant, OutOfMemory>
-    ensures { IfOk result (λ v. v ≡ or_else (value_at tree.now.nodes path.now prop.now) nil_value) }
-{
-    match tree.get(path.as_str(), prop.as_str()) {
-        Some(value) => value.try_clone(alloc),
-        None => Ok(Variant::Nil),
-    }
-}
+use told_rows::value_of;
 
 fn push_values(
     alloc: Global,
@@ -350,4 +340,39 @@ pub fn shift_row(
         tell_shift(&mut out, &mut show, alloc, tree, row, peer, before, after)?;
     }
     Ok(out)
+}
+
+/// The packet that tells a peer values of one synchronizer.
+fn push_entry(
+    out: &mut OutList,
+    alloc: Global,
+    peer: &i32,
+    entry: DeltaEntry,
+) -> Result<(), OutOfMemory>
+    requires { is_right_entry entry ≡ true }
+    ensures { OnOk result (out.new ≡ out.old ++ sent_to packet_form peer.now (entry_packet entry) ∷ []) }
+{
+    let mut entries = Items::new(alloc);
+    entries.push(entry)?;
+    let bytes = encode_packet(alloc, &Message::Plain(Plain::Delta { entries }))?;
+    out.push(parcel(peer, bytes))?;
+    Ok(())
+}
+
+/// The packets that tell a peer values of synchronizers in order, one each.
+pub fn push_entries(
+    out: &mut OutList,
+    alloc: Global,
+    peer: &i32,
+    entries: DeltaList,
+) -> Result<(), OutOfMemory>
+    requires { list_all is_right_entry entries ≡ true }
+    ensures { OnOk result (out.new ≡ out.old ++ entries_to packet_form peer.now entries) }
+{
+    let mut entries = entries;
+    while !entries.is_empty() {
+        let entry = entries.remove(0);
+        push_entry(out, alloc, peer, entry)?;
+    }
+    Ok(())
 }

@@ -15,6 +15,7 @@ mod spawning;
 mod track;
 mod values;
 
+pub use despawning::number_at;
 pub use lookup::{fixed_node, path_id, spawner_at, syncs_of};
 pub use making::copy_argument;
 pub use placing::put_value;

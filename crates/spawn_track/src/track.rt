@@ -13,7 +13,7 @@ ghost use Rattle.peer_steps.specs.Judged.{sight_judged};
 ghost use Rattle.peer_steps.specs.Sites.{who_at};
 ghost use Rattle.peer_steps.specs.Track.{first_track, own_despawn, own_sighted, own_spawn, hidden_row, number_at as number_of, shown_of, shown_spawn, sight_at, sights_set, track_down, track_up, track_without, tree_without};
 ghost use Rattle.peer_steps.specs.Rights.{is_right_row};
-ghost use Rattle.peer_steps.specs.Tellings.{syncs_seen as syncs_seen_of};
+ghost use Rattle.peer_steps.specs.Tellings.{ids_with, syncs_seen as syncs_seen_of};
 ghost use Rattle.sight_laws.specs.Sights.{RowSight as RowSightOf, row_sees};
 ghost use Rattle.spawn_track.specs.Judging.{IsDespawned};
 ghost use Rattle.spawn_track.specs.Numbers.{IsTracked, row_at as row_at_of};
@@ -278,6 +278,17 @@ impl Track {
         match row_number(tree, path) {
             Some(num) => row_among(self.rows.as_slice(), num),
             None => None,
+        }
+    }
+
+    /// The ids of the synchronizers of the row with a number.
+    pub fn ids_of(&self, num: u32) -> &[u32]
+        requires { IsTracked self.now }
+        ensures { result.now ≡ ids_with num self.now.rows }
+    {
+        match row_among(self.rows.as_slice(), num) {
+            Some(row) => row.ids.as_slice(),
+            None => &[],
         }
     }
 

@@ -24,7 +24,14 @@ impl Peer {
             return Ok(Outcome::Refused(Refusal::BadPeer));
         }
         self.spent = true;
-        let refused = come_up(&mut self.peers, &mut self.track, peer)?;
+        let refused = come_up(
+            &mut self.peers,
+            &mut self.track,
+            &mut self.told,
+            alloc,
+            &self.tree,
+            peer,
+        )?;
         self.spent = false;
         self.answer_up(alloc, peer, refused)
     }
@@ -47,7 +54,7 @@ impl Peer {
         }
     }
 
-    /// A link went down: the rows of its peer are gone, and nothing is shown to it.
+    /// A link went down: the rows of its peer are gone, and nothing is shown to it or counts as told.
     pub fn take_down(&mut self, alloc: Global, peer: &i32) -> Outcome
         requires { self.old.spent ≡ false }
         ensures taken { record { outcome = result; kept = self.new } ≡ down_taken self.old peer.now (peer_goes peer.now self.old.peers) }
@@ -57,6 +64,7 @@ impl Peer {
             return Outcome::Refused(Refusal::NoPeer);
         }
         self.track.drop_peer(&mut self.tree, peer);
+        self.told.forget(peer);
         quiet(alloc)
     }
 }

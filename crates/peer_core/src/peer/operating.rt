@@ -9,7 +9,7 @@ ghost use Rattle.peer_steps.specs.Arguments.{is_right_spawn, is_sound_argument};
 ghost use Rattle.peer_steps.specs.Judged.{set_judged};
 ghost use Rattle.peer_steps.specs.Kept.{kept_tree};
 ghost use Rattle.peer_steps.specs.Sound.{is_sound_op};
-ghost use Rattle.peer_steps.specs.Steps.{op_taken, set_taken, spawn_taken, despawn_taken, sight_taken, done_with, shows_of};
+ghost use Rattle.peer_steps.specs.Steps.{frame_taken, op_taken, set_taken, spawn_taken, despawn_taken, sight_taken, done_with, shows_of};
 ghost use Rattle.peer_steps.specs.Track.{own_spawn, own_despawn, own_sighted};
 ghost use Rattle.peer_core.specs.Forms.{packet_form};
 ghost use Rattle.peer_core.specs.Parts.{own_row, row_told, shown_before};
@@ -19,6 +19,7 @@ use super::Peer;
 use crate::effects::{answer_despawn, done, quiet, refused_or_quiet};
 use crate::sending::{shift_row, show_to_each};
 use crate::setting::set;
+use crate::telling::{ids_at, note_gone, note_newest, note_shift, tell_frame};
 use gd_variant::{OutOfMemory, Text, Variant};
 use scene_model::{Op, Outcome, PeerList, SpawnOp};
 use sqlite_items::Items;
@@ -58,7 +59,8 @@ impl Peer {
                 let value = value.try_clone(alloc)?;
                 Ok(self.assign(alloc, path, prop, value))
             }
-            Op::Call(_) | Op::Raw { .. } | Op::Frame => unreachable!(),
+            Op::Frame => self.tell_frame(alloc),
+            Op::Call(_) | Op::Raw { .. } => unreachable!(),
         }
     }
 
@@ -88,10 +90,16 @@ impl Peer {
         let refused = self
             .track
             .spawn(alloc, &me, self.peers.up_now(), &mut self.tree, op)?;
-        self.spent = false;
         match refused {
-            Some(refusal) => Ok(Outcome::Refused(refusal)),
-            None => self.show_newest(alloc),
+            Some(refusal) => {
+                self.spent = false;
+                Ok(Outcome::Refused(refusal))
+            }
+            None => {
+                note_newest(&mut self.told, alloc, &self.tree, &self.track)?;
+                self.spent = false;
+                self.show_newest(alloc)
+            }
         }
     }
 
@@ -116,7 +124,9 @@ impl Peer {
         ensures same_id { self.new.who.id ≡ self.old.who.id }
     {
         let me = self.peers.me();
+        let ids = ids_at(alloc, &self.tree, &self.track, path)?;
         let despawned = self.track.despawn(alloc, &me, &mut self.tree, path);
+        note_gone(&mut self.told, ids.as_slice(), &despawned);
         answer_despawn(alloc, despawned)
     }
 
@@ -144,11 +154,44 @@ impl Peer {
             k,
             setting,
         )?;
-        self.spent = false;
         match refused {
-            Some(refusal) => Ok(Outcome::Refused(refusal)),
-            None => self.tell_shifts(alloc, path, before.as_slice()),
+            Some(refusal) => {
+                self.spent = false;
+                Ok(Outcome::Refused(refusal))
+            }
+            None => {
+                note_shift(
+                    &mut self.told,
+                    alloc,
+                    &self.tree,
+                    &self.track,
+                    path,
+                    before.as_slice(),
+                    self.peers.up_now(),
+                )?;
+                self.spent = false;
+                self.tell_shifts(alloc, path, before.as_slice())
+            }
         }
+    }
+
+    /// A frame: each peer that is up is told the on-change properties that it may see and whose values
+    /// differ from those that it was told.
+    fn tell_frame(&mut self, alloc: Global) -> Result<Outcome, OutOfMemory>
+        requires { self.old.spent ≡ false }
+        ensures taken { IfOk result (λ o. record { outcome = o; kept = self.new } ≡ frame_taken packet_form self.old) }
+        ensures same_id { self.new.who.id ≡ self.old.who.id }
+    {
+        self.spent = true;
+        let packets = tell_frame(
+            &mut self.told,
+            alloc,
+            &self.tree,
+            &self.track,
+            self.peers.up_now(),
+        )?;
+        self.spent = false;
+        Ok(done(alloc, packets))
     }
 
     /// The peers to which the own row at a path is shown.

@@ -4,15 +4,16 @@ ghost use Rattle.std.specs.Ordering.{int_eq};
 ghost use Rattle.packet_form.specs.Packets.{read_packet};
 ghost use Rattle.peer_steps.specs.Judged.{link_judged};
 ghost use Rattle.peer_steps.specs.Kept.{kept_tree};
-ghost use Rattle.peer_steps.specs.Sound.{is_sound_message, is_sound_spawn};
-ghost use Rattle.peer_steps.specs.Steps.{linked_taken, read_taken, shown_taken};
+ghost use Rattle.peer_steps.specs.Sound.{are_sound_entries, is_sound_message, is_sound_spawn};
+ghost use Rattle.peer_steps.specs.Steps.{entries_taken, linked_taken, read_taken, shown_taken};
 ghost use Rattle.peer_steps.specs.Track.{shown_spawn, hidden_row};
 
 use super::Peer;
 use crate::effects::fault_or_quiet;
 use crate::links::judge_link;
 use crate::messages::{RowNews, news_in};
-use gd_variant::{Message, OutOfMemory};
+use crate::entries::take_entries;
+use gd_variant::{DeltaList, Message, OutOfMemory};
 use packet_codec::{CodecStop, decode_packet};
 use scene_model::{Fault, Outcome, SpawnMsg};
 use std::alloc::Global;
@@ -56,6 +57,7 @@ impl Peer {
         match news_in(message) {
             Some(RowNews::Appears(spawn)) => self.take_spawn(alloc, from, spawn),
             Some(RowNews::Disappears(net)) => Ok(self.take_despawn(alloc, from, net)),
+            Some(RowNews::Changes(entries)) => Ok(self.take_changes(alloc, from, entries)),
             None => Ok(Outcome::Fault(Fault::NotBuilt)),
         }
     }
@@ -86,6 +88,16 @@ impl Peer {
         ensures same_id { self.new.who.id ≡ self.old.who.id }
     {
         let fault = self.track.apply_despawn(&mut self.tree, from, net);
+        fault_or_quiet(alloc, fault)
+    }
+    /// Values from a link that is up.
+    fn take_changes(&mut self, alloc: Global, from: &i32, entries: DeltaList) -> Outcome
+        requires live { self.old.spent ≡ false }
+        requires sound { are_sound_entries entries ≡ true }
+        ensures taken { record { outcome = result; kept = self.new } ≡ shown_taken self.old (entries_taken from.now entries (kept_tree self.old)) }
+        ensures same_id { self.new.who.id ≡ self.old.who.id }
+    {
+        let fault = take_entries(&mut self.tree, from, entries);
         fault_or_quiet(alloc, fault)
     }
 }
