@@ -11,9 +11,9 @@ ghost use Rattle.scene_model.specs.Syncs.{change_props};
 ghost use Rattle.told_rows.specs.Values.{default_in};
 
 use delta_props::is_on_change;
-use gd_variant::{OutOfMemory, Text, ValueList, Variant, same_text};
+use gd_variant::{OutOfMemory, Text, ValueList, Variant};
 use headless_tree::Tree;
-use scene_model::{Prop, Scene, SyncDef};
+use scene_model::{Prop, Scene, SyncDef, same_text};
 use spawn_track::fixed_node;
 use sqlite_items::{Items, at as item_at};
 use std::alloc::Global;

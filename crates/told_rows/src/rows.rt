@@ -45,7 +45,10 @@ fn show_at(
 {
     match item_at(row.ids.as_slice(), k) {
         Some(id) => match item_at(syncs_of(tree.scene(), row.place), k) {
-            Some(def) => show_sync(told, alloc, tree, row, peer, *id, def),
+            Some(def) => {
+                show_sync(told, alloc, tree, row, peer, *id, def)?;
+                Ok(())
+            }
             None => Ok(()),
         },
         None => Ok(()),

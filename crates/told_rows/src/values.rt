@@ -13,10 +13,10 @@ ghost use Rattle.told_rows.specs.Values.{goes_out, other_value as other_value_of
 
 use crate::defaults::{copy_or_nil, scene_value};
 use delta_props::is_on_change;
-use gd_variant::{OutOfMemory, Text, ValueList, Variant, same_text};
+use gd_variant::{OutOfMemory, Text, ValueList, Variant};
 use headless_tree::Tree;
 use peer_steps::SpawnedRow;
-use scene_model::{SyncDef, SyncProp};
+use scene_model::{SyncDef, SyncProp, same_text};
 use spawn_track::{spawner_at, syncs_of};
 use sqlite_items::Items;
 use std::alloc::Global;
@@ -33,16 +33,10 @@ pub fn value_of(
     copy_or_nil(alloc, tree.get(path.as_str(), prop.as_str()))
 }
 
-fn is_text(one: &Text, other: &Text) -> bool
-    ensures { result ≡ text_eq one.now other.now }
-{
-    same_text(one, other)
-}
-
 fn is_spawn_prop(prop: &SyncProp, name: &Text) -> bool
     ensures { result ≡ (prop.now.spawn && text_eq name.now prop.now.prop) }
 {
-    prop.spawn && is_text(name, &prop.prop)
+    prop.spawn && same_text(name, &prop.prop)
 }
 
 fn has_spawn_prop(props: &[SyncProp], name: &Text) -> bool
@@ -87,7 +81,7 @@ fn takes_argument(tree: &Tree, spawner: &Text, prop: &Text) -> bool
     ensures { result ≡ some_is (text_eq prop.now) (argument_of tree.now.scene spawner.now) }
 {
     match argument_name(tree, spawner) {
-        Some(name) => is_text(prop, name),
+        Some(name) => same_text(prop, name),
         None => false,
     }
 }
