@@ -2,4 +2,4 @@ pub mod Places
 pub mod Masks
 pub mod Judged
 pub mod Putting
-mod Few
+pub mod Few

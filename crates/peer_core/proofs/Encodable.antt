@@ -1,5 +1,5 @@
 -- A row of a valid scene has a packet, and that packet is read again.
-use Rattle.std.proofs.Common.{◌≡◌, ℕ, ◌*◌, ◌<◌, ◌≤◌, Bool, true, false, ◌&&◌, List, [], ◌∷◌, length, refl, arith, inl, inr, Option, Some, None, Ok}
+use Rattle.std.proofs.Common.{◌≡◌, ℕ, ◌*◌, ◌<◌, ◌≤◌, Bool, true, false, ◌&&◌, List, [], ◌∷◌, ◌++◌, length, refl, arith, inl, inr, Option, Some, None, Ok}
 use Rattle.std.specs.Prelude.{ℤ, find, option_map, option_and_then, nat_eq, nat_le, nat_lt}
 use Rattle.std.specs.List.{list_all}
 use Rattle.std.proofs.lemmas.Bool.{cases_Bool, leb-true, ltb-true, eqb-true, ne_eqb, and_parts, and_from}
@@ -15,10 +15,12 @@ use Rattle.gd_variant.specs.declared.message.Plain.TheVariants as packet
 use Rattle.gd_variant.specs.declared.message.Message.TheVariants.{Plain as plain_packet}
 use Rattle.variant_codec.proofs.Forms.{small_written_size, small_int_short}
 use Rattle.packet_form.specs.Packets.{most_bytes, IsEncodable, IsWritable}
-use Rattle.packet_form.specs.Written.{written_value, written_values, written_packet, arg_bytes, IsArgSound, AreSound}
+use Rattle.packet_form.specs.Written.{written_value, written_values, written_packet, arg_bytes, delta_entry_bytes, IsArgSound, AreSound}
+use Rattle.gd_variant.specs.declared.message.DeltaEntry.{DeltaEntry}
+use Rattle.peer_core.specs.Parts.{is_right_entry}
 use Rattle.std.specs.Int.{w8, w32}
 use Rattle.byte_fields.specs.Fields.{word}
-use Rattle.packet_form.proofs.Lengths.{byte_size, word_size, arg_size, filled_spawn_size}
+use Rattle.packet_form.proofs.Lengths.{byte_size, word_size, arg_size, delta_entry_size, filled_spawn_size}
 use Rattle.packet_form.proofs.Written.{round_trip}
 use Rattle.scene_model.specs.declared.scene.Scene.{Scene}
 use Rattle.scene_model.specs.declared.scene.Prop.{Prop}
@@ -109,6 +111,15 @@ spawn_encodable s v place byte spawner net ids name arg values r = record { soun
 -- so has the packet that hides a row
 pub despawn_encodable : (num : ℕ) → IsEncodable (plain_packet (packet.Despawn num))
 despawn_encodable num = record { sound = tt; short = omega (arith, length-append (word w8 5) (word w32 num), byte_size 5, word_size num) }
+
+-- so has the packet that tells values of one synchronizer
+pub entry_encodable : (e : DeltaEntry) → is_right_entry e ≡ true → IsEncodable (plain_packet (packet.Delta (e ∷ [])))
+entry_encodable e h =
+    let parts = and_parts (nat_le (length e.values) 64) (list_all is_right_value e.values) h in
+    record {
+      sound = (values_sound e.values parts.1, tt);
+      short = omega (arith, length-append (word w8 22) (delta_entry_bytes e ++ []), byte_size 22, length-append (delta_entry_bytes e) [], delta_entry_size e, values_short e.values parts.1, leb-true (length e.values) 64 parts.0);
+    }
 
 -- the values of nodes
 

@@ -3,3 +3,4 @@ pub mod Distinct
 pub mod SpawnProps
 pub mod Encodable
 pub mod SoundRead
+pub mod ToldEntries

@@ -38,7 +38,7 @@ use Rattle.peer_steps.specs.Stands.{StandsFor}
 use Rattle.peer_steps.specs.Peers.{Peers, no_peers, comes_judged, peers_after, peer_comes, peer_goes, without_peer}
 use Rattle.peer_steps.specs.Sites.{who_at, own_made}
 use Rattle.peer_steps.specs.Sound.{is_sound_spawn, is_sound_read, is_sound_message}
-use Rattle.peer_steps.specs.Steps.{Taken, unchanged, done_with, row_packet, sent_to, up_answer, up_taken, link_taken, track_came, told_came, spawn_answer, spawn_told, spawn_taken, shows_of, sight_told, row_told as told_row, despawn_answer, despawn_taken, answer_by, shifts, row_shifts, sight_shifts, sight_taken, row_read, message_taken, linked_taken, read_taken}
+use Rattle.peer_steps.specs.Steps.{Taken, unchanged, done_with, row_packet, sent_to, up_answer, up_taken, link_taken, track_came, told_came, spawn_answer, spawn_told, spawn_taken, shows_of, sight_told, row_told as told_row, frame_told, frame_by, frame_taken, entries_to, with_packets, entries_taken, entries_put, entries_judged, despawn_answer, despawn_taken, answer_by, shifts, row_shifts, sight_shifts, sight_taken, row_read, message_taken, linked_taken, read_taken}
 use Rattle.peer_steps.specs.Track.{Track, Spawned, Despawned, Sighted, SightChange, first_track, track_after, own_spawn, shown_spawn, hidden_row, tree_without, track_up, track_down, seen_by, shown_of, number_at, row_with, is_row, despawned_by, own_despawn, sighted_by, sight_at, own_sighted}
 use Rattle.peer_steps.proofs.Fitting.{fits_start, fits_without, fits_hidden, fits_despawn, fits_up, fits_down, fits_set, fits_spawn, fits_shown}
 use Rattle.peer_steps.proofs.Clauses.{start_stands}
@@ -47,11 +47,11 @@ use Rattle.spawn_track.specs.Judging.{IsDespawned}
 use Rattle.spawn_track.specs.Numbers.{IsTracked, row_at, row_number_of}
 use Rattle.spawn_track.specs.declared.track.Gone.{Gone}
 use Rattle.spawn_track.proofs.Tracked.{tracked_start, tracked_up, tracked_down, tracked_set, tracked_despawn, tracked_spawn}
-use Rattle.peer_steps.specs.Tellings.{hidden_from_all, ids_with}
+use Rattle.peer_steps.specs.Tellings.{hidden_from_all, ids_with, frame_to}
 use Rattle.peer_core.specs.declared.messages.RowNews.{RowNews}
 use Rattle.peer_core.specs.declared.messages.RowNews.TheVariants.{Appears}
 use Rattle.peer_core.specs.Forms.{packet_form}
-use Rattle.peer_core.specs.Parts.{AreRight, parts_kept, news_of, own_row, shown_before, row_told, seen_at, as_list, gone_answer, gone_told, shift_told}
+use Rattle.peer_core.specs.Parts.{AreRight, parts_kept, news_of, own_row, shown_before, row_told, seen_at, as_list, gone_answer, gone_told, newest_told, shift_told, frame_parts}
 
 -- a step of the parts of a peer that isn't spent is one of that peer
 pub by_parts : (f : Kept → Taken) (x : Taken) (k : Kept) (s : Bool) (p : Peers) (t : TreeOf) (r : Track) (old : ToldValues) → parts_kept s p t r old ≡ k → k.spent ≡ false → x ≡ f (parts_kept false p t r old) → x ≡ f k
@@ -239,13 +239,13 @@ hidden_right p t u r from net f made h = record { fits = subst (λ (x : Option F
 
 pub if_spawned : (x : Result Outcome OutOfMemory) (k : Kept) (s : Bool) (p : Peers) (t u : TreeOf) (r w : Track) (old new : ToldValues) (me : ℤ) (up : List ℤ) (op : SpawnOp) (f : Option Refusal) → parts_kept s p t r old ≡ k → k.spent ≡ false → me ≡ p.me → up ≡ p.up
     → record { refused = f; track = w; tree = u } ≡ own_spawn me up op r t → f ≡ None
-    → ((row : SpawnedRow) → slice_get w.rows (length w.rows - 1) ≡ Some row → new ≡ spawn_told (parts_kept false p u w old) row f)
+    → new ≡ newest_told u w (slice_get w.rows (length w.rows - 1)) old
     → ((row : SpawnedRow) → slice_get w.rows (length w.rows - 1) ≡ Some row → IfOk x (λ o. o ≡ done_with (shows_of packet_form (parts_kept false p u w new) row)))
     → IfOk x (λ o. ◌≡◌ {A = Taken} (record { outcome = o; kept = parts_kept false p u w new }) (spawn_taken packet_form k op (own_spawn k.who.id k.peers.up op k.track (kept_tree k))))
 if_spawned (Ok o) k s p t u r w old new me up op f is live same ups made none tells answer =
     let own = made ∙ own_same p me up op r t same ups in
     by_parts (λ j. spawn_taken packet_form j op (own_spawn j.who.id j.peers.up op j.track (kept_tree j))) (record { outcome = o; kept = parts_kept false p u w new }) k s p t r old is live
-    (spawn_is p t u r w old new op f o own none (tells (own_made p.me t.scene r.next op) (newest_made p t u r w op f own none)) (answer (own_made p.me t.scene r.next op) (newest_made p t u r w op f own none)))
+    (spawn_is p t u r w old new op f o own none (tells ∙ ap (λ q. newest_told u w q old) (newest_made p t u r w op f own none) ∙ sym (ap (spawn_told (parts_kept false p u w old) (own_made p.me t.scene r.next op)) none)) (answer (own_made p.me t.scene r.next op) (newest_made p t u r w op f own none)))
 if_spawned (Err e) k s p t u r w old new me up op f is live same ups made none tells answer = tt
 
 pub spawn_no : (k : Kept) (s : Bool) (p : Peers) (t u : TreeOf) (r w : Track) (old new : ToldValues) (me : ℤ) (up : List ℤ) (op : SpawnOp) (f : Option Refusal) (e : Refusal) → parts_kept s p t r old ≡ k → k.spent ≡ false → me ≡ p.me → up ≡ p.up
@@ -378,6 +378,20 @@ if_sighted (Ok o) k s p t r w old new me up path n c f before given is live own 
     ∙ ap₂ (λ bs qs. done_with (row_told packet_form (parts_kept false p t w new) bs (row_at t.nodes path qs))) first rows
     ∙ ap done_with (told_is (parts_kept false p t r old) w (shown_before (parts_kept false p t r old) (own_row (parts_kept false p t r old) path)) (own_row (parts_kept false p t r old) path) refl ∙ own_shifts (parts_kept false p t r old) path w.sights)
     ∙ sym (ap (λ g. answer_by g (sight_shifts packet_form (parts_kept false p t r old) path w.sights)) none)))
+
+-- a frame
+
+frame_same : (k : Kept) (bs : List ℤ) (told : ToldValues) → frame_parts packet_form (kept_tree k) k.track bs told ≡ frame_told packet_form k bs told
+frame_same k [] told = refl
+frame_same k (b ∷ bs) told = ap (with_packets (entries_to packet_form b (frame_to k.who.scene k.nodes k.track b told).0)) (frame_same k bs (frame_to k.who.scene k.nodes k.track b told).1)
+
+pub frame_is : (k : Kept) (s : Bool) (p : Peers) (t : TreeOf) (r : Track) (old new : ToldValues) (up : List ℤ) (packets : List Out) (o : Outcome) → parts_kept s p t r old ≡ k → k.spent ≡ false → up ≡ p.up
+    → ◌≡◌ {A = List Out × ToldValues} (packets, new) (frame_parts packet_form t r up old) → o ≡ done_with packets → ◌≡◌ {A = Taken} (record { outcome = o; kept = parts_kept false p t r new }) (frame_taken packet_form k)
+frame_is k s p t r old new up packets o is live ups made done =
+    let here = parts_kept false p t r old in
+    by_parts (frame_taken packet_form) (record { outcome = o; kept = parts_kept false p t r new }) k s p t r old is live
+    (ap {B = Taken} (λ (x : Outcome). record { outcome = x; kept = parts_kept false p t r new }) done
+    ∙ ap (frame_by here) (made ∙ ap (λ us. frame_parts packet_form t r us old) ups ∙ frame_same here p.up old))
 
 -- a received packet
 

@@ -18,7 +18,7 @@ use Rattle.peer_steps.specs.Fits.{Fits}
 use Rattle.peer_steps.specs.Rights.{is_right_value}
 use Rattle.peer_steps.specs.Steps.{RowNews, appears, disappears, changes, done_with, entries_to, row_packet, sent_to, shifts, with_packets}
 use Rattle.peer_steps.specs.Track.{shown_of}
-use Rattle.peer_steps.specs.Tellings.{frame_to, hidden_from_all, told_shifts}
+use Rattle.peer_steps.specs.Tellings.{frame_to, hidden_from_all, shown_to_all, told_shifts}
 use Rattle.delta_props.specs.Telling.{ToldValues}
 use Rattle.peer_steps.specs.declared.rows.SpawnedRow.{SpawnedRow}
 use Rattle.spawn_track.specs.Numbers.{IsTracked, row_at}
@@ -69,6 +69,11 @@ as_list None = []
 abbrev pub gone_answer : Result Gone Refusal → Outcome
 gone_answer (Ok g) = done_with (map (λ b. sent_to packet_form b (despawn_packet g.num)) g.shown.items)
 gone_answer (Err e) = Refused e
+
+-- what was told after a spawn: the newest row is shown to those that may see it
+abbrev pub newest_told : TreeOf → Track → Option SpawnedRow → ToldValues → ToldValues
+newest_told t w None told = told
+newest_told t w (Some r) told = shown_to_all t.scene t.nodes r (shown_of r.num w.sights) told
 
 -- what was told after a despawn of a row whose synchronizers have these ids
 abbrev pub gone_told : List ℕ → Result Gone Refusal → ToldValues → ToldValues

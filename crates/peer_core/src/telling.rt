@@ -1,13 +1,12 @@
 //! What peers count as told, after spawns, despawns, settings of visibility and frames.
-ghost use Rattle.std.specs.Prelude.{◌≡◌, ◌-◌, true, Some, IfOk, OnOk, length, slice_get};
+ghost use Rattle.std.specs.Prelude.{◌≡◌, ◌-◌, true, IfOk, OnOk, length, slice_get};
 ghost use Rattle.std.specs.List.{list_all};
 ghost use Rattle.scene_model.specs.Valid.{IsValidScene};
-ghost use Rattle.peer_steps.specs.declared.rows.SpawnedRow.{SpawnedRow as RowOf};
 ghost use Rattle.peer_steps.specs.Rights.{has_right_values, is_right_row};
-ghost use Rattle.peer_steps.specs.Tellings.{frame_to, ids_with, shown_to_all};
-ghost use Rattle.peer_steps.specs.Track.{number_at as number_of, shown_of};
+ghost use Rattle.peer_steps.specs.Tellings.{frame_to, ids_with};
+ghost use Rattle.peer_steps.specs.Track.{number_at as number_of};
 ghost use Rattle.spawn_track.specs.Numbers.{IsTracked, row_at};
-ghost use Rattle.peer_core.specs.Parts.{entries_told, frame_parts, gone_told, shift_told};
+ghost use Rattle.peer_core.specs.Parts.{entries_told, frame_parts, gone_told, newest_told, shift_told};
 ghost use Rattle.peer_core.specs.Forms.{packet_form};
 
 use crate::sending::push_entries;
@@ -28,7 +27,7 @@ pub fn note_newest(
     track: &Track,
 ) -> Result<(), OutOfMemory>
     requires { IsTracked track.now }
-    ensures { (row : RowOf) → slice_get track.now.rows (length track.now.rows - 1) ≡ Some row → OnOk result (told.new ≡ shown_to_all tree.now.scene tree.now.nodes row (shown_of row.num track.now.sights) told.old) }
+    ensures { OnOk result (told.new ≡ newest_told tree.now track.now (slice_get track.now.rows (length track.now.rows - 1)) told.old) }
 {
     match track.rows().last() {
         Some(row) => show_row(told, alloc, tree, row, track.shown(row.num)),

@@ -1,0 +1,208 @@
+-- The entries of a frame can be written, and received entries leave the parts of a peer right.
+use Rattle.std.proofs.Common.{◌≡◌, ◌×◌, ◌+◌, ◌*◌, ◌/◌, ◌%◌, ◌≤◌, ℕ, zero, suc, ℤ, Bool, true, false, cond, not, ◌&&◌, ◌||◌, List, [], ◌∷◌, refl, sym, ap, subst, ◌∙◌, length, map, nat_eq, nat_le, Option, Some, None, arith, length-append}
+use Rattle.std.specs.Prelude.{slice_get, find, option_map, option_and_then, zip, Result, Ok, Err, if◌then◌else◌}
+use Rattle.std.specs.List.{list_all, cons_option, slice_set}
+use Rattle.std.specs.Option.{option_map_or}
+use Rattle.std.proofs.lemmas.Bool.{and_parts, and_from, or_parts, le-leb, leb-true}
+use Rattle.std.proofs.lemmas.List.{length-map}
+use Rattle.gd_variant.specs.Sound.{is_sound}
+use Rattle.gd_variant.specs.Words.{text_eq, or_else, when, first_of}
+use Rattle.gd_variant.specs.declared.value.Variant.{Variant}
+use Rattle.gd_variant.specs.declared.value.Variant.TheVariants.{Nil}
+use Rattle.gd_variant.specs.declared.message.DeltaEntry.{DeltaEntry}
+use Rattle.gd_variant.specs.declared.message.Message.TheVariants.{Plain as plain_packet}
+use Rattle.scene_model.specs.declared.scene.Scene.{Scene}
+use Rattle.scene_model.specs.declared.scene.Prop.{Prop}
+use Rattle.scene_model.specs.declared.scene.SyncDef.{SyncDef}
+use Rattle.scene_model.specs.declared.spawn.SyncRef.{SyncRef}
+use Rattle.scene_model.specs.declared.outcome.Fault.{Fault}
+use Rattle.scene_model.specs.declared.outcome.Fault.TheVariants as fault
+use Rattle.scene_model.specs.Lookup.{fixed_node, sync_of, value_in}
+use Rattle.scene_model.specs.Nodes.{Live, live_at}
+use Rattle.scene_model.specs.Syncs.{change_props}
+use Rattle.scene_model.specs.Valid.{IsValidScene}
+use Rattle.packet_form.specs.Packets.{IsEncodable}
+use Rattle.peer_model.specs.Rows.{syncs_at}
+use Rattle.peer_model.specs.Updates.{masked}
+use Rattle.peer_model.specs.Changes.{mask_of}
+use Rattle.peer_model.specs.Faults.{bad_mask, wrong_delta}
+use Rattle.peer_model.specs.View.{fits}
+use Rattle.headless_tree.specs.Nodes.{TreeOf, with_value}
+use Rattle.headless_tree.specs.Lists.{change_at, change_first}
+use Rattle.headless_tree.proofs.Numbered.{all_at}
+use Rattle.peer_laws.proofs.Places.{all_found}
+use Rattle.peer_laws.proofs.Tests.{then_some, no_row, not_false}
+use Rattle.delta_props.specs.Telling.{ToldValues, value_of, told_by, told_one, told_sync, sync_by, sync_at, sync_named, fixed_sync, collected, untold, told_of, with_told}
+use Rattle.delta_props.specs.declared.meaning.Meant.{Meant}
+use Rattle.delta_props.specs.Taking.{def_at, meant, entry_judged, def_judged, meant_judged, put_prop, put_props, entry_put, nodes_taken, delta_taken}
+use Rattle.delta_props.proofs.Few.{named_few}
+use Rattle.peer_steps.specs.Fits.{Fits}
+use Rattle.peer_steps.specs.Rights.{is_right_value, are_right, has_right_values, is_before}
+use Rattle.peer_steps.specs.Peers.{Peers}
+use Rattle.peer_steps.specs.Sound.{are_sound_entries}
+use Rattle.peer_steps.specs.Steps.{entries_judged, entries_put, entries_by, entries_taken}
+use Rattle.peer_steps.specs.Track.{Track}
+use Rattle.peer_core.specs.Forms.{entry_packet}
+use Rattle.peer_core.specs.Parts.{AreRight, is_right_entry}
+
+-- values of nodes
+
+right_prop : Prop → Bool
+right_prop p = is_right_value p.value
+
+value_right : (n : Live) (prop : List ℕ) → has_right_values n ≡ true → is_right_value (value_of n prop) ≡ true
+value_right n prop h = by (find (λ (p : Prop). text_eq p.name prop) n.values) refl
+  where
+    by : (o : Option Prop) → find (λ (p : Prop). text_eq p.name prop) n.values ≡ o → is_right_value (or_else (option_map (λ (p : Prop). p.value) o) Nil) ≡ true
+    by None e = refl
+    by (Some p) e = all_found (λ (q : Prop). is_right_value q.value) (λ (q : Prop). text_eq q.name prop) n.values p h e
+
+values_right : (n : Live) (props : List (List ℕ)) → has_right_values n ≡ true → list_all is_right_value (map (value_of n) props) ≡ true
+values_right n [] h = refl
+values_right n (p ∷ ps) h = and_from (is_right_value (value_of n p)) (list_all is_right_value (map (value_of n) ps)) (value_right n p h) (values_right n ps h)
+
+masked_few : {X : Type 0} (mask : ℕ) (xs : List X) → length (masked mask xs) ≤ length xs
+masked_few mask [] = omega arith
+masked_few mask (x ∷ xs) = step (nat_eq (mask % 2) 1) (masked_few (mask / 2) xs)
+  where
+    step : (b : Bool) → length (masked (mask / 2) xs) ≤ length xs → length (cond b (x ∷ masked (mask / 2) xs) (masked (mask / 2) xs)) ≤ suc (length xs)
+    step true h = omega (arith, h)
+    step false h = omega (arith, h)
+
+-- what a frame tells of one synchronizer
+
+entry_right : (n : Live) (id mask : ℕ) (props : List (List ℕ)) → has_right_values n ≡ true → length props ≤ 64 → is_right_entry (record { id = id; mask = mask; values = map (value_of n) (masked mask props) }) ≡ true
+entry_right n id mask props h few =
+    and_from (nat_le (length (map (value_of n) (masked mask props))) 64) (list_all is_right_value (map (value_of n) (masked mask props)))
+    (le-leb (length (map (value_of n) (masked mask props))) 64 (omega (arith, few, masked_few mask props, length-map (masked mask props) (value_of n))))
+    (values_right n (masked mask props) h)
+
+one_right : (b : ℤ) (id : ℕ) (n : Live) (props : List (List ℕ)) (mask : ℕ) (told : ToldValues) (es : List DeltaEntry) → has_right_values n ≡ true → length props ≤ 64 → list_all is_right_entry es ≡ true → list_all is_right_entry (cons_option (told_by b id (value_of n) props mask told).0 es) ≡ true
+one_right b id n props mask told es h few all = step (nat_eq mask 0)
+  where
+    entry : DeltaEntry
+    entry = record { id = id; mask = mask; values = map (value_of n) (masked mask props) }
+
+    step : (c : Bool) → list_all is_right_entry (cons_option (cond c (None, told) (Some (record { id = id; mask = mask; values = map (value_of n) (masked mask props) }), with_told b id (map (value_of n) props) told)).0 es) ≡ true
+    step true = all
+    step false = and_from (is_right_entry (record { id = id; mask = mask; values = map (value_of n) (masked mask props) })) (list_all is_right_entry es) (entry_right n id mask props h few) all
+
+-- a synchronizer that is named serves a node of the tree
+
+served : (nodes : List Live) (d : SyncDef) (y : Live × SyncDef) → list_all has_right_values nodes ≡ true → (o : Option Live) → live_at nodes d.of ≡ o → option_map (λ (m : Live). (m, d)) o ≡ Some y → has_right_values y.0 ≡ true
+served nodes d y h None e k = absurd (cc k)
+served nodes d y h (Some m) e k =
+    let same : (m, d) ≡ y = cc in
+    ap (λ (x : Live × SyncDef). has_right_values x.0) (sym same) ∙ all_found has_right_values (λ (x : Live). text_eq x.path d.of) nodes m h e
+
+own : (n : Live) (o : Option SyncDef) (y : Live × SyncDef) → has_right_values n ≡ true → option_map (λ (d : SyncDef). (n, d)) o ≡ Some y → has_right_values y.0 ≡ true
+own n None y h k = absurd (cc k)
+own n (Some d) y h k = let same : (n, d) ≡ y = cc in ap (λ (x : Live × SyncDef). has_right_values x.0) (sym same) ∙ h
+
+by_place : (s : Scene) (nodes : List Live) (k : ℕ) (n : Live) (place : Option ℕ) (y : Live × SyncDef) → list_all has_right_values nodes ≡ true → has_right_values n ≡ true → sync_by s nodes k n place ≡ Some y → has_right_values y.0 ≡ true
+by_place s nodes k n None y h right e =
+    let found = then_some (λ (d : SyncDef). option_map (λ (m : Live). (m, d)) (live_at nodes d.of)) (option_and_then sync_of (fixed_node s n.path)) y e in
+    served nodes found.0 y h (live_at nodes found.0.of) refl found.2
+by_place s nodes k n (Some place) y h right e = own n (slice_get (syncs_at s (Some place)) k) y right e
+
+named_right : (s : Scene) (nodes : List Live) (path : List ℕ) (k : ℕ) (y : Live × SyncDef) → list_all has_right_values nodes ≡ true → sync_named s nodes path k ≡ Some y → has_right_values y.0 ≡ true
+named_right s nodes path k y h e =
+    let found = then_some (sync_at s nodes k) (live_at nodes path) y e in
+    by_place s nodes k found.0 found.0.place y h (all_found has_right_values (λ (m : Live). text_eq m.path path) nodes found.0 h found.1) found.2
+
+sync_right : (b : ℤ) (s : Scene) (nodes : List Live) (x : SyncRef) (told : ToldValues) (es : List DeltaEntry) → IsValidScene s → list_all has_right_values nodes ≡ true → list_all is_right_entry es ≡ true → (o : Option (Live × SyncDef)) → sync_named s nodes x.path x.k ≡ o
+    → list_all is_right_entry (cons_option (told_sync b x.id o told).0 es) ≡ true
+sync_right b s nodes x told es valid h all None e = all
+sync_right b s nodes x told es valid h all (Some y) e =
+    one_right b x.id y.0 (change_props y.1) (mask_of (untold (value_of y.0) (told_of b x.id told) 0 (change_props y.1))) told es (named_right s nodes x.path x.k y h e) (named_few s valid nodes x.path x.k y e) all
+
+-- what a frame tells a peer
+pub frame_right : (b : ℤ) (s : Scene) (nodes : List Live) (syncs : List SyncRef) (told : ToldValues) → IsValidScene s → list_all has_right_values nodes ≡ true → list_all is_right_entry (collected b s nodes syncs told).0 ≡ true
+frame_right b s nodes [] told valid h = refl
+frame_right b s nodes (x ∷ xs) told valid h =
+    let y = sync_named s nodes x.path x.k in
+    sync_right b s nodes x told (collected b s nodes xs (told_sync b x.id y told).1).0 valid h (frame_right b s nodes xs (told_sync b x.id y told).1 valid h) y refl
+
+-- received entries
+
+all_set : {X : Type 0} (p : X → Bool) (xs : List X) (i : ℕ) (y : X) → p y ≡ true → list_all p xs ≡ true → list_all p (slice_set xs i y) ≡ true
+all_set p [] zero y k h = refl
+all_set p [] (suc i) y k h = refl
+all_set p (x ∷ xs) zero y k h = and_from (p y) (list_all p xs) k (and_parts (p x) (list_all p xs) h).1
+all_set p (x ∷ xs) (suc i) y k h = let parts = and_parts (p x) (list_all p xs) h in and_from (p x) (list_all p (slice_set xs i y)) parts.0 (all_set p xs i y k parts.1)
+
+all_placed : {X : Type 0} (p : X → Bool) (f : X → X) → ((x : X) → p x ≡ true → p (f x) ≡ true) → (xs : List X) (i : ℕ) → list_all p xs ≡ true → list_all p (change_at i f xs) ≡ true
+all_placed {X} p f keep xs i h = by (slice_get xs i) refl
+  where
+    by : (o : Option X) → slice_get xs i ≡ o → list_all p (option_map_or (λ x. slice_set xs i (f x)) o xs) ≡ true
+    by None e = h
+    by (Some x) e = all_set p xs i (f x) (keep x (all_at p xs i x e h)) h
+
+all_first : {X : Type 0} (p test : X → Bool) (f : X → X) → ((x : X) → p (f x) ≡ true) → (xs : List X) → list_all p xs ≡ true → list_all p (change_first test f xs) ≡ true
+all_first p test f right [] h = refl
+all_first {X} p test f right (x ∷ xs) h = step (test x) (all_first p test f right xs parts.1)
+  where
+    parts : (p x ≡ true) × (list_all p xs ≡ true)
+    parts = and_parts (p x) (list_all p xs) h
+
+    step : (b : Bool) → list_all p (change_first test f xs) ≡ true → list_all p (cond b (f x ∷ xs) (x ∷ change_first test f xs)) ≡ true
+    step true more = and_from (p (f x)) (list_all p xs) (right x) parts.1
+    step false more = and_from (p x) (list_all p (change_first test f xs)) parts.0 more
+
+put_fits : (me : ℤ) (place : ℕ) (name : List ℕ) (value : Variant) (t : TreeOf) (k : Track) → is_right_value value ≡ true → Fits me t k → Fits me (record t { nodes = put_prop place name value t.nodes }) k
+put_fits me place name value t k right f =
+    let put = λ (n : Live). record n { values = change_first (λ (p : Prop). text_eq p.name name) (with_value value) n.values } in
+    record {
+      valid = f.valid;
+      values = all_placed has_right_values put (λ n h. all_first (λ (p : Prop). is_right_value p.value) (λ (p : Prop). text_eq p.name name) (with_value value) (λ p. right) n.values h) t.nodes place f.values;
+      rows = f.rows;
+      before = all_placed (is_before me k.next) put (λ n h. h) t.nodes place f.before;
+    }
+
+puts_fit : (me : ℤ) (place : ℕ) (names : List (List ℕ)) (values : List Variant) (t : TreeOf) (k : Track) → list_all is_right_value values ≡ true → Fits me t k → Fits me (record t { nodes = put_props place (zip names values) t.nodes }) k
+puts_fit me place [] values t k right f = record { valid = f.valid; values = f.values; rows = f.rows; before = f.before }
+puts_fit me place (p ∷ ps) [] t k right f = record { valid = f.valid; values = f.values; rows = f.rows; before = f.before }
+puts_fit me place (p ∷ ps) (v ∷ vs) t k right f =
+    let parts = and_parts (is_right_value v) (list_all is_right_value vs) right in
+    puts_fit me place ps vs (record t { nodes = put_prop place p v t.nodes }) k parts.1 (put_fits me place p v t k parts.0 f)
+
+both_right : (vs : List Variant) → list_all is_sound vs ≡ true → list_all fits vs ≡ true → list_all is_right_value vs ≡ true
+both_right [] h k = refl
+both_right (v ∷ vs) h k =
+    let sound = and_parts (is_sound v) (list_all is_sound vs) h in
+    let short = and_parts (fits v) (list_all fits vs) k in
+    and_from (is_right_value v) (list_all is_right_value vs) (and_from (is_sound v) (fits v) sound.0 short.0) (both_right vs sound.1 short.1)
+
+-- an entry that is no fault has no value that is too long
+judged_short : (e : DeltaEntry) (d : SyncDef) → entry_judged e d ≡ None → list_all fits e.values ≡ true
+judged_short e d h =
+    let wrong = no_row (wrong_delta e d) fault.WrongValues [] (no_row (bad_mask e.mask d) (fault.BadMask e.mask) (when (wrong_delta e d) fault.WrongValues ∷ []) h).1 in
+    not_false (list_all fits e.values) (or_parts (not (nat_eq (length e.values) (length (masked e.mask (change_props d))))) (not (list_all fits e.values)) wrong.0).1
+
+entry_fits : (me : ℤ) (e : DeltaEntry) (d : Option SyncDef) (place : Option ℕ) (t : TreeOf) (k : Track) → list_all is_sound e.values ≡ true → def_judged e d ≡ None → Fits me t k → Fits me (record t { nodes = entry_put e d place t.nodes }) k
+entry_fits me e None place t k sound h f = absurd (let some : Some (fault.NoSync e.id) ≡ None = h in cc some)
+entry_fits me e (Some d) None t k sound h f = record { valid = f.valid; values = f.values; rows = f.rows; before = f.before }
+entry_fits me e (Some d) (Some place) t k sound h f = puts_fit me place (masked e.mask (change_props d)) e.values t k (both_right e.values sound (judged_short e d h)) f
+
+one_fits : (me : ℤ) (e : DeltaEntry) (t : TreeOf) (k : Track) (m : Result Meant Fault) (o : Option Fault) → list_all is_sound e.values ≡ true → meant_judged t.scene e m ≡ o → Fits me t k → Fits me (record t { nodes = nodes_taken t.scene e o m t.nodes }) k
+one_fits me e t k (Err x) None sound h f = absurd (let some : Some x ≡ None = h in cc some)
+one_fits me e t k (Ok x) None sound h f = entry_fits me e (def_at t.scene x.at) x.place t k sound h f
+one_fits me e t k (Err x) (Some y) sound h f = record { valid = f.valid; values = f.values; rows = f.rows; before = f.before }
+one_fits me e t k (Ok x) (Some y) sound h f = record { valid = f.valid; values = f.values; rows = f.rows; before = f.before }
+
+entries_fit : (me from : ℤ) (es : List DeltaEntry) (t : TreeOf) (k : Track) → are_sound_entries es ≡ true → Fits me t k → Fits me (entries_put from es t) k
+entries_fit me from [] t k sound f = f
+entries_fit me from (e ∷ es) t k sound f =
+    let parts = and_parts (list_all is_sound e.values) (are_sound_entries es) sound in
+    let m = meant t.scene t.nodes from e.id in
+    entries_fit me from es (delta_taken from e t).1 k parts.1 (one_fits me e t k m (meant_judged t.scene e m) parts.0 refl f)
+
+taken_fits : (me from : ℤ) (es : List DeltaEntry) (t : TreeOf) (k : Track) → are_sound_entries es ≡ true → Fits me t k → (o : Option Fault) → Fits me (entries_by from es t o).1 k
+taken_fits me from es t k sound f (Some x) = f
+taken_fits me from es t k sound f None = entries_fit me from es t k sound f
+
+pub changed_right : (p : Peers) (t u : TreeOf) (r : Track) (from : ℤ) (es : List DeltaEntry) (o : Option Fault) → are_sound_entries es ≡ true → (o, u) ≡ entries_taken from es t → AreRight p.me t r → AreRight p.me u r
+changed_right p t u r from es o sound made h = record {
+  fits = subst (λ (x : Option Fault × TreeOf). Fits p.me x.1 r) (sym made) (taken_fits p.me from es t r sound h.fits (entries_judged t from es));
+  tracked = h.tracked;
+}
