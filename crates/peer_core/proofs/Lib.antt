@@ -4,3 +4,4 @@ pub mod SpawnProps
 pub mod Encodable
 pub mod SoundRead
 pub mod ToldEntries
+pub mod AtFirst

@@ -7,6 +7,7 @@ use Rattle.gd_variant.specs.Tree.{Tree, plain as tree_of}
 use Rattle.gd_variant.specs.Size.{tree_size}
 use Rattle.gd_variant.specs.Sound.{nesting, is_right, is_sound_tree, is_sound}
 use Rattle.gd_variant.specs.declared.message.Target.TheVariants as target
+use Rattle.gd_variant.specs.declared.message.DeltaEntry.{DeltaEntry}
 use Rattle.gd_variant.specs.declared.message.Plain.{Plain}
 use Rattle.gd_variant.specs.declared.message.Plain.TheVariants as plain
 use Rattle.gd_variant.specs.declared.message.Message.{Message}
@@ -18,7 +19,8 @@ use Rattle.packet_form.specs.declared.head.CallHead.{CallHead}
 use Rattle.packet_form.specs.declared.head.Head.{Head}
 use Rattle.packet_form.specs.declared.head.Head.TheVariants as head
 use Rattle.packet_form.specs.Head.{is_plain}
-use Rattle.packet_form.specs.Grammar.{IsValue, IsArgFor, IsCall, IsSpawn, IsPlainOf, IsPayload, IsMessage}
+use Rattle.packet_form.specs.Tests.{delta_entry_of}
+use Rattle.packet_form.specs.Grammar.{IsValue, IsArgFor, IsCall, IsSpawn, IsDeltaEntry, IsPlainOf, IsPayload, IsMessage}
 use Rattle.packet_form.specs.Tests.{is_offset, offset_fits}
 use Rattle.packet_form.specs.Wholes.{Fitting, Region, Chosen}
 use Rattle.packet_form.specs.Packets.{Frames}
@@ -96,6 +98,9 @@ spawns_pass =
     pass_seen is_sound_plain (λ values. plain.Spawn scene spawner net syncs name arg values)
     (record { pass = λ values b r w. and_from (is_sound_argument arg) (list_all is_sound values) sound (each_passes values_pass values b r w) })))))))))
 
+delta_entries_pass : AllPass (λ (t : DeltaEntry). list_all is_sound t.values) IsDeltaEntry
+delta_entries_pass = pass_behind (λ id. pass_behind (λ mask. pass_seen (λ (t : DeltaEntry). list_all is_sound t.values) (delta_entry_of id mask) (pass_behind (λ size. pass_region size (pass_each values_pass)))))
+
 plains_pass : (h : Head) → AllPass is_sound_plain (IsPlainOf h)
 plains_pass (head.Call h) = calls_pass h
 plains_pass head.Simplify = pass_behind (λ digest. pass_behind (λ _. pass_behind (λ id. pass_seen is_sound_plain (λ path. plain.Simplify digest id path) (pass_any (λ path. true) (λ path. refl)))))
@@ -104,7 +109,7 @@ plains_pass head.Raw = pass_seen is_sound_plain (λ s. plain.Raw s) (pass_any (�
 plains_pass head.Spawn = spawns_pass
 plains_pass head.Despawn = pass_seen is_sound_plain (λ net. plain.Despawn net) (pass_any (λ net. true) (λ net. refl))
 plains_pass head.Sync = pass_behind (λ tick. pass_seen is_sound_plain (λ entries. plain.Sync tick entries) (pass_any (λ entries. true) (λ entries. refl)))
-plains_pass head.Delta = pass_seen is_sound_plain (λ entries. plain.Delta entries) (pass_any (λ entries. true) (λ entries. refl))
+plains_pass head.Delta = pass_seen is_sound_plain (λ entries. plain.Delta entries) (record { pass = λ entries b r w. each_passes delta_entries_pass entries b r w })
 plains_pass head.System = record { pass = λ p b r w. absurd r }
 
 payloads_pass : (sub : ℕ) (peer : ℤ) → AllPass is_sound_message (IsPayload sub peer)
@@ -117,6 +122,6 @@ payloads_pass sub peer =
 messages_pass : AllPass is_sound_message IsMessage
 messages_pass = pass_behind (λ h. pass_chosen (is_plain h) (pass_seen is_sound_message (λ p. message.Plain p) (plains_pass h)) (pass_behind (λ sub. pass_behind (payloads_pass sub))))
 
--- a spawn whose packet some bytes are has sound values
+-- the values of a message whose packet some bytes are are sound
 pub read_sound : (m : Message) (b : List ℕ) → Frames m b → is_sound_message m ≡ true
 read_sound m b f = messages_pass.pass m b f.frames f.short

@@ -41,7 +41,6 @@ use Rattle.peer_steps.specs.Sound.{is_sound_spawn, is_sound_read, is_sound_messa
 use Rattle.peer_steps.specs.Steps.{Taken, unchanged, done_with, row_packet, sent_to, up_answer, up_taken, link_taken, track_came, told_came, spawn_answer, spawn_told, spawn_taken, shows_of, sight_told, row_told as told_row, frame_told, frame_by, frame_taken, entries_to, with_packets, entries_taken, entries_put, entries_judged, despawn_answer, despawn_taken, answer_by, shifts, row_shifts, sight_shifts, sight_taken, row_read, message_taken, linked_taken, read_taken}
 use Rattle.peer_steps.specs.Track.{Track, Spawned, Despawned, Sighted, SightChange, first_track, track_after, own_spawn, shown_spawn, hidden_row, tree_without, track_up, track_down, seen_by, shown_of, number_at, row_with, is_row, despawned_by, own_despawn, sighted_by, sight_at, own_sighted}
 use Rattle.peer_steps.proofs.Fitting.{fits_start, fits_without, fits_hidden, fits_despawn, fits_up, fits_down, fits_set, fits_spawn, fits_shown}
-use Rattle.peer_steps.proofs.Clauses.{start_stands}
 use Rattle.delta_props.specs.Telling.{ToldValues}
 use Rattle.spawn_track.specs.Judging.{IsDespawned}
 use Rattle.spawn_track.specs.Numbers.{IsTracked, row_at, row_number_of}
@@ -486,7 +485,3 @@ pub new_right : (p : Peers) (t : TreeOf) (r : Track) (id : ℤ) (s : Scene) → 
 new_right p t r id s valid peers tree track =
     subst (λ (q : Peers). AreRight q.me t r) (sym peers) (subst (λ (u : TreeOf). AreRight id u r) (sym tree) (subst (λ (w : Track). AreRight id (kept_tree (new_peer s id)) w) (sym track)
     (record { fits = fits_start id s valid; tracked = tracked_start s id })))
-
-pub new_stands : (p : Peers) (t : TreeOf) (r : Track) (old : ToldValues) (id : ℤ) (s : Scene) → IsValidScene s → p ≡ no_peers id → t ≡ kept_tree (new_peer s id) → r ≡ first_track s id → old ≡ [] → StandsFor packet_form (parts_kept false p t r old) []
-new_stands p t r old id s valid peers tree track told =
-    subst (λ k. StandsFor packet_form k []) (sym (ap₂ (λ (q : Peers) (u : TreeOf). parts_kept false q u r old) peers tree ∙ ap₂ (λ (w : Track) (d : ToldValues). parts_kept false (no_peers id) (kept_tree (new_peer s id)) w d) track told)) (start_stands packet_form s id valid)

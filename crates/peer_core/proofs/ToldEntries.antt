@@ -1,5 +1,5 @@
 -- The entries of a frame can be written, and received entries leave the parts of a peer right.
-use Rattle.std.proofs.Common.{◌≡◌, ◌×◌, ◌+◌, ◌*◌, ◌/◌, ◌%◌, ◌≤◌, ℕ, zero, suc, ℤ, Bool, true, false, cond, not, ◌&&◌, ◌||◌, List, [], ◌∷◌, refl, sym, ap, subst, ◌∙◌, length, map, nat_eq, nat_le, Option, Some, None, arith, length-append}
+use Rattle.std.proofs.Common.{◌≡◌, ◌+◌, ◌*◌, ◌/◌, ◌%◌, ◌≤◌, ℕ, zero, suc, ℤ, Bool, true, false, cond, not, ◌&&◌, ◌||◌, List, [], ◌∷◌, refl, sym, ap, ap₂, subst, ◌∙◌, length, map, nat_eq, nat_le, Option, Some, None, arith, length-append}
 use Rattle.std.specs.Prelude.{slice_get, find, option_map, option_and_then, zip, Result, Ok, Err, if◌then◌else◌}
 use Rattle.std.specs.List.{list_all, cons_option, slice_set}
 use Rattle.std.specs.Option.{option_map_or}
@@ -36,14 +36,16 @@ use Rattle.delta_props.specs.Telling.{ToldValues, value_of, told_by, told_one, t
 use Rattle.delta_props.specs.declared.meaning.Meant.{Meant}
 use Rattle.delta_props.specs.Taking.{def_at, meant, entry_judged, def_judged, meant_judged, put_prop, put_props, entry_put, nodes_taken, delta_taken}
 use Rattle.delta_props.proofs.Few.{named_few}
+use Rattle.scene_model.specs.declared.outcome.Outcome.{Outcome}
 use Rattle.peer_steps.specs.Fits.{Fits}
+use Rattle.peer_steps.specs.Kept.{Kept, kept_tree}
 use Rattle.peer_steps.specs.Rights.{is_right_value, are_right, has_right_values, is_before}
 use Rattle.peer_steps.specs.Peers.{Peers}
 use Rattle.peer_steps.specs.Sound.{are_sound_entries}
-use Rattle.peer_steps.specs.Steps.{entries_judged, entries_put, entries_by, entries_taken}
+use Rattle.peer_steps.specs.Steps.{Taken, shown_answer, shown_taken, entries_judged, entries_put, entries_by, entries_taken}
 use Rattle.peer_steps.specs.Track.{Track}
 use Rattle.peer_core.specs.Forms.{entry_packet}
-use Rattle.peer_core.specs.Parts.{AreRight, is_right_entry}
+use Rattle.peer_core.specs.Parts.{AreRight, is_right_entry, parts_kept}
 
 -- values of nodes
 
@@ -80,10 +82,7 @@ entry_right n id mask props h few =
 one_right : (b : ℤ) (id : ℕ) (n : Live) (props : List (List ℕ)) (mask : ℕ) (told : ToldValues) (es : List DeltaEntry) → has_right_values n ≡ true → length props ≤ 64 → list_all is_right_entry es ≡ true → list_all is_right_entry (cons_option (told_by b id (value_of n) props mask told).0 es) ≡ true
 one_right b id n props mask told es h few all = step (nat_eq mask 0)
   where
-    entry : DeltaEntry
-    entry = record { id = id; mask = mask; values = map (value_of n) (masked mask props) }
-
-    step : (c : Bool) → list_all is_right_entry (cons_option (cond c (None, told) (Some (record { id = id; mask = mask; values = map (value_of n) (masked mask props) }), with_told b id (map (value_of n) props) told)).0 es) ≡ true
+    step : (c : Bool) → list_all is_right_entry (cons_option (cond {A = Option DeltaEntry × ToldValues} c (None, told) (Some (record { id = id; mask = mask; values = map (value_of n) (masked mask props) }), with_told b id (map (value_of n) props) told)).0 es) ≡ true
     step true = all
     step false = and_from (is_right_entry (record { id = id; mask = mask; values = map (value_of n) (masked mask props) })) (list_all is_right_entry es) (entry_right n id mask props h few) all
 
@@ -206,3 +205,20 @@ changed_right p t u r from es o sound made h = record {
   fits = subst (λ (x : Option Fault × TreeOf). Fits p.me x.1 r) (sym made) (taken_fits p.me from es t r sound h.fits (entries_judged t from es));
   tracked = h.tracked;
 }
+
+puts_scene : (from : ℤ) (es : List DeltaEntry) (t : TreeOf) → (entries_put from es t).scene ≡ t.scene
+puts_scene from [] t = refl
+puts_scene from (e ∷ es) t = puts_scene from es (delta_taken from e t).1
+
+taken_scene : (from : ℤ) (es : List DeltaEntry) (t : TreeOf) (o : Option Fault) → (entries_by from es t o).1.scene ≡ t.scene
+taken_scene from es t (Some x) = refl
+taken_scene from es t None = puts_scene from es t
+
+pub changed_is : (k : Kept) (s : Bool) (p : Peers) (t u : TreeOf) (r : Track) (told : ToldValues) (from : ℤ) (es : List DeltaEntry) (f : Option Fault) (o : Outcome) → parts_kept s p t r told ≡ k → (f, u) ≡ entries_taken from es t → o ≡ shown_answer f
+    → ◌≡◌ {A = Taken} (record { outcome = o; kept = parts_kept s p u r told }) (shown_taken k (entries_taken from es (kept_tree k)))
+changed_is k s p t u r told from es f o is made answer =
+    let here = parts_kept s p t r told in
+    let scene : u.scene ≡ t.scene = ap (λ (x : Option Fault × TreeOf). x.1.scene) made ∙ taken_scene from es t (entries_judged t from es) in
+    ap₂ {C = Taken} (λ (x : Outcome) (c : Scene). record { outcome = x; kept = record here { who = record { id = p.me; scene = c }; nodes = u.nodes } }) answer scene
+    ∙ ap (shown_taken here) made
+    ∙ ap (λ (j : Kept). shown_taken j (entries_taken from es (kept_tree j))) is

@@ -1,4 +1,4 @@
-use Rattle.std.proofs.Common.{◌≡◌, ◌×◌, ◌++◌, List, drop}
+use Rattle.std.proofs.Common.{◌≡◌, ◌++◌, List, drop}
 use Rattle.scene_model.specs.declared.outcome.Out.{Out}
 use Rattle.delta_props.specs.Telling.{ToldValues}
 use Rattle.peer_core.specs.Forms.{packet_form}

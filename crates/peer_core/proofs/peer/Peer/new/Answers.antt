@@ -1,4 +1,5 @@
-use Rattle.peer_core.proofs.Taken.{new_right, new_stands}
+use Rattle.peer_core.proofs.AtFirst.{new_stands}
+use Rattle.peer_core.proofs.Taken.{new_right}
 use Rattle.peer_core.proofs.peer.Peer.new.Goals as goal
 
 pub invariant_of-result : goal.invariant_of-result
