@@ -1,5 +1,6 @@
-use Rattle.std.proofs.Common.{◌∙◌, rules, w32}
+use Rattle.std.proofs.Common.{ap, ◌∙◌, rules, w32}
 use Rattle.std.proofs.lemmas.Int.{to_z-of_z}
+use Rattle.peer_core.specs.Parts.{gone_told}
 use Rattle.peer_core.proofs.Taken.{despawn_kept, if_despawned}
 use Rattle.peer_core.proofs.peer.Peer.despawn.Goals as goal
 
