@@ -199,7 +199,7 @@ spawned p t u r w old new op f o made tells answer =
     let scene = ap (λ (s : Spawned). s.tree.scene) made in
     let same = with_nodes p t u r w old old scene in
     ap₂ {C = Taken} (λ (x : Outcome) (j : Kept). record { outcome = x; kept = j }) (answer ∙ ap (λ j. spawn_answer packet_form j row f) same)
-        (with_nodes p t u r w old new scene ∙ ap (λ (d : ToldValues). record k { nodes = u.nodes; track = w; told = d }) (tells ∙ ap (λ j. spawn_told j row f) same))
+    (with_nodes p t u r w old new scene ∙ ap (λ (d : ToldValues). record k { nodes = u.nodes; track = w; told = d }) (tells ∙ ap (λ j. spawn_told j row f) same))
     ∙ ap (spawn_taken packet_form k op) made
 
 -- the row that a spawn makes is the newest

@@ -36,12 +36,7 @@ pub fn note_newest(
 }
 
 /// The ids of the synchronizers of the own row whose node stands at a path.
-pub fn ids_at(
-    alloc: Global,
-    tree: &Tree,
-    track: &Track,
-    path: &Text,
-) -> Result<IdList, OutOfMemory>
+pub fn ids_at(alloc: Global, tree: &Tree, track: &Track, path: &Text) -> Result<IdList, OutOfMemory>
     requires { IsTracked track.now }
     ensures { IfOk result (λ ids. ids ≡ ids_with (number_of tree.now.nodes path.now) track.now.rows) }
 {

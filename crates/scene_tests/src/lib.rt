@@ -5,6 +5,6 @@
 #[cfg(test)]
 mod copies;
 #[cfg(test)]
-mod tree_calls;
-#[cfg(test)]
 mod told;
+#[cfg(test)]
+mod tree_calls;

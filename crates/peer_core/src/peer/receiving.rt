@@ -10,9 +10,9 @@ ghost use Rattle.peer_steps.specs.Track.{shown_spawn, hidden_row};
 
 use super::Peer;
 use crate::effects::fault_or_quiet;
+use crate::entries::take_entries;
 use crate::links::judge_link;
 use crate::messages::{RowNews, news_in};
-use crate::entries::take_entries;
 use gd_variant::{DeltaList, Message, OutOfMemory};
 use packet_codec::{CodecStop, decode_packet};
 use scene_model::{Fault, Outcome, SpawnMsg};

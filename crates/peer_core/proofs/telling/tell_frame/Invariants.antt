@@ -8,4 +8,4 @@ use Rattle.peer_core.proofs.telling.tell_frame.Given as goal
 abbrev pub invariant-loop-peer : goal.invariant-loop-peer
 invariant-loop-peer l =
     ◌≡◌ {A = List Out × ToldValues} (l.out ++ (frame_parts packet_form l.tree l.track (drop l.peer-index l.up) l.told).0, (frame_parts packet_form l.tree l.track (drop l.peer-index l.up) l.told).1)
-        (frame_parts packet_form l.tree l.track l.up l.fn.told)
+    (frame_parts packet_form l.tree l.track l.up l.fn.told)
