@@ -1,4 +1,4 @@
-use Rattle.std.proofs.Common.{◌-◌, ap, ◌∙◌, length}
+use Rattle.std.proofs.Common.{ap, ◌∙◌}
 use Rattle.peer_steps.specs.Kept.{Kept}
 use Rattle.peer_steps.specs.Rights.{is_right_row}
 use Rattle.peer_core.proofs.Taken.{one_right}
