@@ -1,12 +1,10 @@
 -- Own rows stand by number after each step.
-use Rattle.std.proofs.Common.{◌≡◌, ℕ, ◌+◌, ◌≤◌, ℤ, Bool, true, false, cond, not, ◌&&◌, List, [], ◌∷◌, ◌++◌, map, filter, length, nat_eq, nat_lt, Option, Some, None, refl, sym, ap, ap₂, subst, ◌∙◌, arith}
+use Rattle.std.proofs.Common.{◌≡◌, ℕ, ◌+◌, ◌≤◌, ℤ, Bool, true, false, cond, not, List, [], ◌∷◌, ◌++◌, map, filter, length, nat_eq, nat_lt, Option, Some, None, refl, ap, ◌∙◌, arith}
 use Rattle.std.specs.Prelude.{int_lt, option_map, if◌then◌else◌}
-use Rattle.std.specs.List.{list_all}
 use Rattle.std.proofs.lemmas.List.{map-append}
 use Rattle.std.proofs.lemmas.Bool.Decides.{nat_tests}
-use Rattle.gd_variant.specs.Words.{or_else, put_by, some_is}
+use Rattle.gd_variant.specs.Words.{or_else, put_by}
 use Rattle.scene_model.specs.declared.scene.Scene.{Scene}
-use Rattle.scene_model.specs.declared.scene.SyncDef.{SyncDef}
 use Rattle.scene_model.specs.declared.event.SpawnOp.{SpawnOp}
 use Rattle.scene_model.specs.declared.outcome.Refusal.{Refusal}
 use Rattle.peer_model.specs.Rows.{syncs_at, spawned_scene}
@@ -14,15 +12,15 @@ use Rattle.peer_model.specs.Updates.{Live, live_at}
 use Rattle.headless_tree.specs.Nodes.{TreeOf}
 use Rattle.headless_tree.proofs.Numbered.{both, and_true}
 use Rattle.headless_tree.proofs.Order.{all_weaker}
-use Rattle.sight_laws.specs.Sights.{Sight, RowSight, Sights, with_row, without_row, with_row_set, with_fixed_set, with_peer_up, with_peer_down, new_sight, row_set, row_sees, shown_to_new, hidden_from}
+use Rattle.sight_laws.specs.Sights.{Sight, RowSight, Sights, with_row_set, with_fixed_set, with_peer_up, with_peer_down, new_sight, row_set, row_sees, shown_to_new, hidden_from}
 use Rattle.peer_steps.specs.declared.rows.SpawnedRow.{SpawnedRow}
 use Rattle.peer_steps.specs.Judged.{despawn_judged}
 use Rattle.peer_steps.specs.Sites.{who_at, own_made, after_made}
 use Rattle.peer_steps.specs.Spawns.{spawn_judged}
 use Rattle.peer_steps.specs.Track.{Track, SightChange, first_track, track_after, own_spawn, track_without, despawned_by, number_at, own_despawn, is_row, sights_set, sighted_by, track_up, track_down}
-use Rattle.visibility.specs.Rising.{do_rise, rise_by_number}
+use Rattle.visibility.specs.Rising.{do_rise}
 use Rattle.visibility.proofs.Rises.{rise_snoc, rise_filter, same_numbers}
-use Rattle.spawn_track.specs.Numbers.{numbers_in, numbers_seen, rows_rise, are_below, IsTracked}
+use Rattle.spawn_track.specs.Numbers.{numbers_seen, are_below, IsTracked}
 
 abbrev row_num : SpawnedRow → ℕ
 row_num r = r.num

@@ -1,5 +1,5 @@
 -- The synchronizers of this peer that another may see, at one place after the other.
-use Rattle.std.specs.Prelude.{ℕ, ℤ, Bool, true, false, List, [], ◌∷◌, length, nat_le, Option, Some, None}
+use Rattle.std.specs.Prelude.{ℕ, ℤ, Bool, true, List, [], ◌∷◌, length, nat_le, Option, Some, None}
 use Rattle.gd_variant.specs.Words.{or_else}
 use Rattle.scene_model.specs.declared.scene.Scene.{Scene}
 use Rattle.scene_model.specs.declared.spawn.SyncRef.{SyncRef}

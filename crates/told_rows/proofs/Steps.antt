@@ -8,7 +8,7 @@ use Rattle.scene_model.specs.declared.scene.Scene.{Scene}
 use Rattle.scene_model.specs.declared.scene.Node.{Node}
 use Rattle.scene_model.specs.declared.scene.SyncDef.{SyncDef}
 use Rattle.scene_model.specs.Nodes.{Live}
-use Rattle.scene_model.specs.Syncs.{Syncer, fixed_syncer, row_syncer, row_syncers}
+use Rattle.scene_model.specs.Syncs.{Syncer, fixed_syncer, row_syncer}
 use Rattle.sight_laws.specs.Sights.{RowSight, row_sees}
 use Rattle.delta_props.specs.Telling.{ToldValues}
 use Rattle.peer_steps.specs.declared.rows.SpawnedRow.{SpawnedRow}
