@@ -1,6 +1,6 @@
 -- What is kept of settings, rows and fixed synchronizers, against the definitions.
-use Rattle.std.proofs.Common.{◌≡◌, ℕ, zero, suc, ◌+◌, ◌<◌, ◌≤◌, ℤ, Bool, true, false, cond, not, ◌&&◌, ◌||◌, List, [], ◌∷◌, ◌++◌, refl, sym, ap, ap₂, subst, ◌∙◌, length, map, filter, flat_map, nat_eq, nat_lt, Option, Some, None, is_some, arith}
-use Rattle.std.specs.Prelude.{filter_map, find, position, remove, is_none, slice_get, slice_index_or, option_map, option_and_then, nat_le, if◌then◌else◌}
+use Rattle.std.proofs.Common.{◌≡◌, ℕ, zero, suc, ◌+◌, ◌<◌, ◌≤◌, ℤ, Bool, true, false, cond, not, ◌&&◌, ◌||◌, List, [], ◌∷◌, refl, sym, ap, ap₂, subst, ◌∙◌, length, map, filter, flat_map, nat_eq, nat_lt, Option, Some, None, is_some, arith}
+use Rattle.std.specs.Prelude.{filter_map, position, remove, is_none, slice_get, slice_index_or, nat_le, if◌then◌else◌}
 use Rattle.std.specs.List.{slice_set, list_any}
 use Rattle.std.specs.Map.{lookup}
 use Rattle.std.specs.Option.{option_map_or}
@@ -10,7 +10,7 @@ use Rattle.scene_model.specs.declared.scene.Node.{Node}
 use Rattle.scene_model.specs.declared.scene.SyncDef.{SyncDef}
 use Rattle.scene_model.specs.declared.scene.Scene.{Scene}
 use Rattle.scene_model.specs.Lookup.{sync_of}
-use Rattle.scene_model.specs.Syncs.{Syncer, fixed_syncer, fixed_syncers}
+use Rattle.scene_model.specs.Syncs.{fixed_syncer}
 use Rattle.headless_tree.specs.Lists as lists
 use Rattle.headless_tree.proofs.Apart.{one_changed, none_changed, none_gone, taken_apart}
 use Rattle.headless_tree.proofs.Changes.{change_by_place}
@@ -18,8 +18,8 @@ use Rattle.headless_tree.proofs.Numbered.{none_placed}
 use Rattle.headless_tree.proofs.Places.{first_is, found_at, not_found}
 use Rattle.indexmap.specs.IndexMap.{insert_entry}
 use Rattle.peer_laws.proofs.Numbers.{int_comm}
-use Rattle.peer_steps.specs.Track.{sight_with, shown_of}
-use Rattle.sight_laws.specs.Sights.{Setting, Sight, RowSight, FixedSight, Sights, has_setting, is_set, put_setting, is_set_full, fixed_first, first_sights, change_at, first_sight, without_row, with_row_set, row_set}
+use Rattle.peer_steps.specs.Track.{sight_with}
+use Rattle.sight_laws.specs.Sights.{Sight, RowSight, FixedSight, Sights, has_setting, is_set, put_setting, is_set_full, fixed_first, first_sights, change_at, first_sight}
 use Rattle.visibility.specs.Rising.{rise_by_number}
 use Rattle.visibility.specs.Settings.{fixed_from, kept_setting}
 use Rattle.visibility.proofs.Rises.{rises_apart}

@@ -1,12 +1,11 @@
 -- Lists by rising numbers: where a number stands, and what keeps them so.
-use Rattle.std.proofs.Common.{◌≡◌, ℕ, zero, suc, ◌+◌, ◌<◌, ◌≤◌, Bool, true, false, cond, not, ◌&&◌, List, [], ◌∷◌, ◌++◌, refl, sym, ap, ap₂, subst, ◌∙◌, length, get_or, map, filter, nat_eq, nat_lt, Option, Some, None, arith}
-use Rattle.std.specs.Prelude.{position, slice_get, remove}
-use Rattle.std.specs.List.{list_all, list_any, prefix_len}
+use Rattle.std.proofs.Common.{◌≡◌, ℕ, zero, suc, ◌<◌, Bool, true, false, cond, not, List, [], ◌∷◌, ◌++◌, refl, sym, ap, ap₂, ◌∙◌, length, get_or, map, filter, nat_eq, nat_lt, Some, None, arith}
+use Rattle.std.specs.Prelude.{position, slice_get}
+use Rattle.std.specs.List.{list_all, prefix_len}
 use Rattle.std.specs.List.Sorted.{IsPartitionedBy}
 use Rattle.std.proofs.lemmas.Bool.Decides.{nat_tests}
 use Rattle.headless_tree.proofs.Apart.{StandsApart, found_apart, fails_apart, none_apart, not_placed}
 use Rattle.headless_tree.proofs.Numbered.{both, and_true}
-use Rattle.headless_tree.proofs.Order.{all_weaker}
 use Rattle.visibility.specs.Rising.{do_rise}
 
 later : (k m n : ℕ) → nat_lt k m ≡ true → nat_lt m n ≡ true → nat_lt k n ≡ true
