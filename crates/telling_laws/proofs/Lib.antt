@@ -1,3 +1,4 @@
 pub mod Keys
 pub mod Several
 pub mod Ids
+pub mod Nexts
