@@ -63,7 +63,7 @@ own_only who es all =
 
 -- members
 
-flat_every : {X Y : Type 0} (P : Y → Type 0) (f : X → List Y) (xs : List X) → AllByRecursion P (flat_map f xs) → AllByRecursion (λ x. AllByRecursion P (f x)) xs
+pub flat_every : {X Y : Type 0} (P : Y → Type 0) (f : X → List Y) (xs : List X) → AllByRecursion P (flat_map f xs) → AllByRecursion (λ x. AllByRecursion P (f x)) xs
 flat_every P f [] h = tt
 flat_every P f (x ∷ xs) h = (every_left P (f x) (flat_map f xs) h, flat_every P f xs (every_right P (f x) (flat_map f xs) h))
 

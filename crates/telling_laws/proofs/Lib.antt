@@ -2,3 +2,5 @@ pub mod Keys
 pub mod Several
 pub mod Ids
 pub mod Nexts
+pub mod Peers
+pub mod Firsts

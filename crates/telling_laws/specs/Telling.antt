@@ -21,6 +21,11 @@ abbrev pub told_none : ℤ → List ℕ → ToldValues → ToldValues
 told_none b [] t = t
 told_none b (id ∷ ids) t = told_none b ids (without_sync b id t)
 
+-- what is made for peers in order
+abbrev pub over_peers : (ℤ → ToldValues → ToldValues) → List ℤ → ToldValues → ToldValues
+over_peers op [] t = t
+over_peers op (b ∷ bs) t = over_peers op bs (op b t)
+
 -- whether two keys are the same
 abbrev pub same_key : ℤ × ℕ → ℤ × ℕ → Bool
 same_key x y = is_key x.0 x.1 y
