@@ -17,7 +17,7 @@ use Rattle.peer_model.specs.Values.{default_value}
 use Rattle.peer_model.specs.Updates.{all_spawn_props}
 use Rattle.headless_tree.specs.Nodes.{value_at}
 use Rattle.delta_props.specs.Telling.{ToldValues, collected}
-use Rattle.telling_laws.specs.Telling.{told_all, told_none, over_peers}
+use Rattle.telling_laws.specs.Telling.{told_all, told_none, told_shift, over_peers}
 use Rattle.sight_laws.specs.Sights.{Sight, RowSight, FixedSight, is_visible}
 use Rattle.peer_steps.specs.declared.rows.SpawnedRow.{SpawnedRow}
 use Rattle.peer_steps.specs.Track.{Track, row_with}
@@ -77,16 +77,9 @@ told_up who nodes b seen t = rows_shown who.scene nodes b seen (told_all b (firs
 
 -- settings
 
--- a peer saw a row before or not, and sees it then or not
-abbrev pub told_shift : Scene → List Live → SpawnedRow → ℤ → Bool → Bool → ToldValues → ToldValues
-told_shift s nodes r b true false t = told_none b r.ids t
-told_shift s nodes r b false true t = row_shown s nodes r b t
-told_shift s nodes r b true true t = t
-told_shift s nodes r b false false t = t
-
--- the same for each peer that is up, by those to which the row was shown before and is shown then
+-- an own row is shown to some peers before and to some then, among those that are up
 abbrev pub told_shifts : Scene → List Live → SpawnedRow → List ℤ → List ℤ → List ℤ → ToldValues → ToldValues
-told_shifts s nodes r before after up t = over_peers (λ b. told_shift s nodes r b (has_int b before) (has_int b after)) up t
+told_shifts s nodes r before after up t = over_peers (λ b. told_shift b (shown_told s nodes r) (syncers_in s r) r.ids (has_int b before) (has_int b after)) up t
 
 -- the ids of the own row with a number
 abbrev pub ids_with : ℕ → List SpawnedRow → List ℕ

@@ -4,3 +4,4 @@ pub mod Ids
 pub mod Nexts
 pub mod Peers
 pub mod Firsts
+pub mod Rows
