@@ -5,3 +5,4 @@ pub mod Nexts
 pub mod Peers
 pub mod Firsts
 pub mod Rows
+pub mod Events
