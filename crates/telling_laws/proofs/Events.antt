@@ -31,7 +31,7 @@ use Rattle.world_laws.proofs.Law.{every_weaker}
 use Rattle.world_laws.proofs.Own.{leaves, own_later, is_unfixed, own_unfixed}
 use Rattle.world_laws.proofs.Sending.{brought_new}
 use Rattle.sight_laws.specs.Seen.{SightSet, set_in, is_still}
-use Rattle.sight_laws.specs.Told.{row_first_told}
+use Rattle.sight_laws.specs.Told.{row_first_told, fixed_first_told}
 use Rattle.sight_laws.proofs.Events.{still_alone, up_alone, down_alone, spawn_alone, set_alone, up_same, up_more, up_less}
 use Rattle.sight_laws.proofs.Later.{sets_at, unspawned, spawns_is}
 use Rattle.sight_laws.proofs.Lists.{of_member, every_of_all, every_both, every_true}
@@ -68,6 +68,10 @@ was_not_seen who es b r up has h = step (sees who es b r) refl
 -- a peer that isn't up sees nothing
 none_seen : (who : Who) (es : List Heard) (b : ℤ) (r : OwnRow) → is_up es b ≡ false → has_nat r.num (numbers_of (visible_rows who es b)) ≡ false
 none_seen who es b r down = ap (λ t. has_nat r.num (numbers_of (if t then filter (sees who es b) (own_rows who es) else []))) down
+
+-- the own rows are own rows
+themselves : (who : Who) (es : List Heard) → AllByRecursion (Contains (own_rows who es)) (own_rows who es)
+themselves who es = recursion_from_All (Contains (own_rows who es)) (own_rows who es) (All-contains_itself (own_rows who es))
 
 module _ (who : Who) (es : List Heard) (e : Heard) (v : IsValidScene who.scene) (all : AllDone who (e ∷ es)) where
   -- the events with this one
@@ -270,3 +274,97 @@ module _ (who : Who) (es : List Heard) (e : Heard) (v : IsValidScene who.scene) 
             ap (option_map (map Some)) (over_put op for_one b y.id (f q y)
             (λ u h. ap₂ (λ m n. told_of b y.id (told_shift b (f q) (row_syncers_of who q) (map (λ (z : Syncer). z.id) (row_syncers_of who q)) m n u)) then_not now_sees ∙ all_told b (f q) y (row_syncers_of who q) u (only_row who es all.1 y q (row_member who es q y has of_q) has) (id_among (row_syncers_of who q) y of_q))
             ups t once (among b up) ∙ ap (λ x. Some (f x y)) same) ∙ ap Some (first b r y up seen mine new)
+
+  -- a peer goes down
+  pub puts_down : (t : ToldValues) → HasOnce t → (c : ℤ) → taken_down e ≡ Some c → Puts who es e t (without_peer c t)
+  puts_down t once c is = record {
+    once = left_once c t once;
+    fixed_stays = λ b y up was has. left_other b c y.id t (left b up).0;
+    fixed_first = λ b y up down has. absurd (true≢false (sym (left b up).1 ∙ down));
+    row_stays = λ b r y up seen mine was. left_other b c y.id t (left b up).0;
+    row_shown = λ b r y up seen mine new.
+        let own = subst (λ rs. Contains rs r) (rows_same who es e still.2 still.0) (own_of who now b r seen) in
+        absurd (true≢false (sym (left_seen b r (left b up).1 own (none_set r.path e still.1) (seen_sees who now b r up seen)) ∙ new));
+  }
+    where
+      still : (spawn_in e ≡ None) × (set_in e ≡ None) × ((p : List ℕ) → despawns p e ≡ false)
+      still = still_alone e (down_alone e c is).0
+
+      left : (b : ℤ) → is_up now b ≡ true → (int_eq b c ≡ false) × (is_up es b ≡ true)
+      left b up = let parts = and_parts (not (int_eq b c)) (is_up es b) (sym (up_less e es c is b) ∙ up) in (unnot (int_eq b c) parts.0, parts.1)
+
+  -- a peer comes up: it has the defaults of the fixed synchronizers, and the values of the rows that it sees
+  pub puts_up : (f : OwnRow → Syncer → List Variant) → AreFirst f → (t : ToldValues) → HasOnce t → (c : ℤ) → brought_up e ≡ Some c
+      → Puts who es e t (rows_told who c f (filter (sees who es c) (own_rows who es)) (told_all c (λ y. map (default_value who y.node) (change_props y.def)) (fixed_syncers who.scene who.id) t))
+  puts_up f first t once c is = record {
+    once = rows_once who c f rows start (all_once c defaults (fixed_syncers who.scene who.id) t once);
+    fixed_stays = λ b y up was has. others b y.id (old b was);
+    fixed_first = λ b y up down has. let same = brought b up down in (ap (was_up es) same ∙ new, fixed_put b y same up has);
+    row_stays = λ b r y up seen mine was. others b y.id (old b (seen_before who es b e r (own_of who now b r seen) was).0);
+    row_shown = λ b r y up seen mine fresh. shown b r y up seen mine fresh (is_up es b) refl;
+  }
+    where
+      defaults : Syncer → List Variant
+      defaults y = map (default_value who y.node) (change_props y.def)
+
+      start : ToldValues
+      start = told_all c (λ y. map (default_value who y.node) (change_props y.def)) (fixed_syncers who.scene who.id) t
+
+      rows : List OwnRow
+      rows = filter (sees who es c) (own_rows who es)
+
+      new : was_up es c ≡ false
+      new = brought_new who es e c all.0 is
+
+      still : (spawn_in e ≡ None) × (set_in e ≡ None) × ((p : List ℕ) → despawns p e ≡ false)
+      still = still_alone e (up_alone e c is).0
+
+      -- a peer that was up is another, and nothing is put for it
+      old : (b : ℤ) → is_up es b ≡ true → int_eq b c ≡ false
+      old b was = step (int_eq b c) refl
+        where
+          step : (s : Bool) → int_eq b c ≡ s → int_eq b c ≡ false
+          step true e = absurd (true≢false (sym (was_up_if_up es b was) ∙ ap (was_up es) (int_is b c e) ∙ new))
+          step false e = e
+
+      others : (b : ℤ) (id : ℕ) → int_eq b c ≡ false → told_of b id (rows_told who c f rows start) ≡ told_of b id t
+      others b id k = rows_other_peer who c f b id rows start k ∙ all_other_peer b c id defaults (fixed_syncers who.scene who.id) t k
+
+      -- one that wasn't up is the new one
+      brought : (b : ℤ) → is_up now b ≡ true → is_up es b ≡ false → b ≡ c
+      brought b up down = step (int_eq b c) refl
+        where
+          step : (s : Bool) → int_eq b c ≡ s → b ≡ c
+          step true k = int_is b c k
+          step false k = absurd (true≢false (sym up ∙ up_more e es c is b ∙ ap₂ (λ s u. s || u) k down))
+
+      fixed_put : (b : ℤ) (y : Syncer) → b ≡ c → is_up now b ≡ true → Contains (fixed_syncers who.scene who.id) y → option_map (map Some) (told_of b y.id (rows_told who c f rows start)) ≡ Some (fixed_first_told who y)
+      fixed_put b y same up has =
+          ap (λ d. option_map (map Some) (told_of d y.id (rows_told who c f rows start))) same
+          ∙ ap (option_map (map Some)) (rows_other who c f y rows start
+          (every_kept (λ (q : OwnRow). AllByRecursion (λ (z : Syncer). nat_eq y.id z.id ≡ false) (row_syncers_of who q)) (sees who es c) (own_rows who es)
+          (every_weaker (Contains (own_rows who es)) (λ (q : OwnRow). AllByRecursion (λ (z : Syncer). nat_eq y.id z.id ≡ false) (row_syncers_of who q)) (λ q own. fixed_apart who es all.1 v q y has own) (own_rows who es) (themselves who es)))
+          ∙ all_told c defaults y (fixed_syncers who.scene who.id) t (only_fixed who es all.1 y (fixed_member who es y has)) (id_among (fixed_syncers who.scene who.id) y has))
+          ∙ ap Some (first_fixed who es e b y v all (up_alone e c is).2 up (ap (was_up es) same ∙ new) has)
+
+      own_before : (b : ℤ) (r : OwnRow) → Contains (visible_rows who now b) r → Contains (own_rows who es) r
+      own_before b r seen = subst (λ rs. Contains rs r) (rows_same who es e still.2 still.0) (own_of who now b r seen)
+
+      -- what a peer sees then it may have seen before
+      saw : (b : ℤ) (r : OwnRow) → Contains (own_rows who es) r → sees who now b r ≡ true → sees who es b r ≡ true
+      saw b r own k = sym (sees_left who e es b r (of_member (λ x. spawns who x.path e ≡ false) (own_rows who es) r (rows_unspawned who es e all) own) (none_set r.path e still.1)) ∙ k
+
+      row_put : (r : OwnRow) (y : Syncer) → Contains (own_rows who es) r → Contains (row_syncers_of who r) y → sees who es c r ≡ true → told_of c y.id (rows_told who c f rows start) ≡ Some (f r y)
+      row_put r y own mine k = rows_put who c f r y mine (only_row who es all.1 y r (row_member who es r y own mine) own) rows start
+          (every_kept (λ (q : OwnRow). IsSame (λ (x : OwnRow). x.path) r q × (text_eq r.path q.path ≡ false → AllByRecursion (λ (z : Syncer). nat_eq y.id z.id ≡ false) (row_syncers_of who q))) (sees who es c) (own_rows who es)
+          (every_both (IsSame (λ (x : OwnRow). x.path) r) (Contains (own_rows who es)) (λ (q : OwnRow). IsSame (λ (x : OwnRow). x.path) r q × (text_eq r.path q.path ≡ false → AllByRecursion (λ (z : Syncer). nat_eq y.id z.id ≡ false) (row_syncers_of who q)))
+          (λ q same has. (same, λ other. row_apart who es all.1 r q y own mine has other)) (own_rows who es) (same_row who es all.1 r own) (themselves who es)))
+          (path_among rows r (of_member (λ (x : OwnRow). sees who es c x ≡ true → Contains rows x) (own_rows who es) r (seen_there who es c) own k))
+
+      shown : (b : ℤ) (r : OwnRow) (y : Syncer) → is_up now b ≡ true → Contains (visible_rows who now b) r → Contains (row_syncers_of who r) y → has_nat r.num (numbers_of (visible_rows who es b)) ≡ false
+          → (s : Bool) → is_up es b ≡ s → option_map (map Some) (told_of b y.id (rows_told who c f rows start)) ≡ Some (row_first_told who now r y)
+      shown b r y up seen mine fresh true was = absurd (true≢false (sym (left_seen b r was (own_before b r seen) (none_set r.path e still.1) (seen_sees who now b r up seen)) ∙ fresh))
+      shown b r y up seen mine fresh false down =
+          let same = brought b up down in
+          let own = own_before b r seen in
+          ap (option_map (map Some)) (ap (λ d. told_of d y.id (rows_told who c f rows start)) same ∙ row_put r y own mine (ap (λ d. sees who es d r) (sym same) ∙ saw b r own (seen_sees who now b r up seen))) ∙ ap Some (first b r y up seen mine fresh)
