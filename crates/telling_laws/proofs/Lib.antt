@@ -6,3 +6,4 @@ pub mod Peers
 pub mod Firsts
 pub mod Rows
 pub mod Events
+pub mod Telling
