@@ -30,25 +30,23 @@ use Rattle.sight_laws.proofs.Firsts.{owned}
 use Rattle.sight_laws.proofs.Lists.{of_member, every_both, every_of_all}
 use Rattle.telling_laws.proofs.Several.{IsOnly}
 
+-- ids of own rows rise, and are below those of fixed synchronizers
+
+all_rows : (who : Who) (es : List Heard) → filter (λ (r : OwnRow). true) (own_rows who es) ≡ own_rows who es
+all_rows who es = filter_all (λ (r : OwnRow). true) (own_rows who es) (all_each (λ (r : OwnRow). true) (λ r. refl) (own_rows who es))
+
+pub own_marks_rise : (who : Who) (es : List Heard) → rises 1 (ids_in (own_marks (own_rows who es))) ≡ true
+own_marks_rise who es = ap (λ rs. rises 1 (ids_in (own_marks rs))) (sym (all_rows who es)) ∙ own_rise who es (λ r. true)
+
+pub own_marks_low : (who : Who) (es : List Heard) → AllDone who es → list_all (λ i. nat_lt i fixed_bit) (ids_in (own_marks (own_rows who es))) ≡ true
+own_marks_low who es all = part_low who es all (own_marks (own_rows who es)) (subst (λ rs. IsPart (own_marks rs) (ever who es)) (all_rows who es) (own_part who es (λ r. true)))
+
 -- each synchronizer is found by its id
 own_found : (who : Who) (es : List Heard) → AllDone who es → AllByRecursion (λ (y : Syncer). syncer_with y.id (own_syncers who es) ≡ Some y) (own_syncers who es)
-own_found who es all = subst (λ ys. AllByRecursion (λ (y : Syncer). syncer_with y.id ys ≡ Some y) ys) (sym syncers)
-    (every_weaker (FoundBy who.scene who.id ms) (λ (y : Syncer). syncer_with y.id (all_syncers who.scene who.id ms) ≡ Some y) (λ y h. h.there) (all_syncers who.scene who.id ms) (all_found who.scene who.id 1 ms rise low))
-  where
-    all_rows : filter (λ (r : OwnRow). true) (own_rows who es) ≡ own_rows who es
-    all_rows = filter_all (λ (r : OwnRow). true) (own_rows who es) (all_each (λ (r : OwnRow). true) (λ r. refl) (own_rows who es))
-
-    ms : List Mark
-    ms = own_marks (own_rows who es)
-
-    syncers : own_syncers who es ≡ all_syncers who.scene who.id ms
-    syncers = ap (λ ys. fixed_syncers who.scene who.id ++ ys) (flat_own who (own_rows who es))
-
-    rise : rises 1 (ids_in ms) ≡ true
-    rise = ap (λ rs. rises 1 (ids_in (own_marks rs))) (sym all_rows) ∙ own_rise who es (λ r. true)
-
-    low : list_all (λ i. nat_lt i fixed_bit) (ids_in ms) ≡ true
-    low = part_low who es all ms (subst (λ rs. IsPart (own_marks rs) (ever who es)) all_rows (own_part who es (λ r. true)))
+own_found who es all =
+    let ms = own_marks (own_rows who es) in
+    subst (λ ys. AllByRecursion (λ (y : Syncer). syncer_with y.id ys ≡ Some y) ys) (sym (ap (λ ys. fixed_syncers who.scene who.id ++ ys) (flat_own who (own_rows who es))))
+    (every_weaker (FoundBy who.scene who.id ms) (λ (y : Syncer). syncer_with y.id (all_syncers who.scene who.id ms) ≡ Some y) (λ y h. h.there) (all_syncers who.scene who.id ms) (all_found who.scene who.id 1 ms (own_marks_rise who es) (own_marks_low who es all)))
 
 -- so each id belongs to one
 pub own_only : (who : Who) (es : List Heard) → AllDone who es → AllByRecursion (λ y. AllByRecursion (IsOnly y) (own_syncers who es)) (own_syncers who es)

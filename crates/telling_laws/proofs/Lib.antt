@@ -7,3 +7,4 @@ pub mod Firsts
 pub mod Rows
 pub mod Events
 pub mod Telling
+pub mod Collecting

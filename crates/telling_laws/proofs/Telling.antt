@@ -61,7 +61,7 @@ untold_are now told vs (w ∷ ws) i (p ∷ ps) at same = ap₂ (λ b bs. b ∷ b
 
 -- present values that are the same
 
-same_untold : (now own : List ℕ → Variant) (o : Option (List Variant)) (i : ℕ) (ps : List (List ℕ)) → AllByRecursion (λ p. now p ≡ own p) ps → untold now o i ps ≡ untold own o i ps
+pub same_untold : (now own : List ℕ → Variant) (o : Option (List Variant)) (i : ℕ) (ps : List (List ℕ)) → AllByRecursion (λ p. now p ≡ own p) ps → untold now o i ps ≡ untold own o i ps
 same_untold now own o i [] h = refl
 same_untold now own o i (p ∷ ps) h = ap₂ (λ v bs. is_untold o i v ∷ bs) h.0 (same_untold now own o (i + 1) ps h.1)
 
