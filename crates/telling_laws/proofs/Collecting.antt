@@ -81,7 +81,7 @@ joined_differ n m (x ∷ xs) ys h r l d =
     (every_joined (λ (z : Syncer). nat_eq x.id z.id ≡ false) xs ys (lacks_id x.id xs (none_below (x.id + 1) x.id (omega arith) (syncer_ids xs) parts.1)) (low_lacks x.id n ys (omega (arith, h, low)) l),
     joined_differ n (x.id + 1) xs ys (omega (arith, h, low)) parts.1 l d)
 
-kept_differ : (p : Syncer → Bool) (ys : List Syncer) → Differ ys → Differ (filter p ys)
+pub kept_differ : (p : Syncer → Bool) (ys : List Syncer) → Differ ys → Differ (filter p ys)
 kept_differ p [] h = tt
 kept_differ p (y ∷ ys) h = step (p y) (kept_differ p ys h.1)
   where
@@ -90,7 +90,7 @@ kept_differ p (y ∷ ys) h = step (p y) (kept_differ p ys h.1)
     step false more = more
 
 -- own synchronizers have ids of their own
-own_differ : (who : Who) (es : List Heard) → AllDone who es → Differ (own_syncers who es)
+pub own_differ : (who : Who) (es : List Heard) → AllDone who es → Differ (own_syncers who es)
 own_differ who es all =
     let rows = flat_map (mark_syncers who.scene) (own_marks (own_rows who es)) in
     subst (λ ys. Differ (fixed_syncers who.scene who.id ++ ys)) (sym (flat_own who (own_rows who es)))

@@ -8,3 +8,4 @@ pub mod Rows
 pub mod Events
 pub mod Telling
 pub mod Collecting
+pub mod Frames
