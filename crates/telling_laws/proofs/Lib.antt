@@ -9,3 +9,4 @@ pub mod Events
 pub mod Telling
 pub mod Collecting
 pub mod Frames
+pub mod Serving
