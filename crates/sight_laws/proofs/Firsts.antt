@@ -123,7 +123,7 @@ value_first q qs p = step (text_eq q.name p)
     step true = refl
     step false = refl
 
-assigned_there : (name : List ℕ) (v : Variant) (p : List ℕ) (props : List Prop) → value_in (assign name v props) p ≡ (if text_eq name p && has_prop p props then Some v else value_in props p)
+pub assigned_there : (name : List ℕ) (v : Variant) (p : List ℕ) (props : List Prop) → value_in (assign name v props) p ≡ (if text_eq name p && has_prop p props then Some v else value_in props p)
 assigned_there name v p [] = step (text_eq name p)
   where
     step : (b : Bool) → None ≡ (if b && false then Some v else None)

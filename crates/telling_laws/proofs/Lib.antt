@@ -10,3 +10,4 @@ pub mod Telling
 pub mod Collecting
 pub mod Frames
 pub mod Serving
+pub mod RowIds
