@@ -14,6 +14,7 @@ pub mod Putting
 pub mod Parents
 pub mod Put
 pub mod OwnRows
+pub mod ToldParts
 pub mod Judging
 pub mod Accepted
 pub mod Packets
