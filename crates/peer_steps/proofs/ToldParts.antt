@@ -1,11 +1,12 @@
 -- What is kept of told values, by the own rows that are kept: the values of rows that are shown, and the synchronizers that a peer may see.
-use Rattle.std.proofs.Common.{◌≡◌, ℕ, ◌+◌, ℤ, Bool, true, false, cond, ◌&&◌, List, [], ◌∷◌, ◌++◌, refl, sym, ap, ap₂, ◌∙◌, map, filter, is_some, Option, Some, None}
+use Rattle.std.proofs.Common.{◌≡◌, ℕ, ◌+◌, ℤ, Bool, true, false, cond, ◌&&◌, ◌||◌, List, [], ◌∷◌, ◌++◌, refl, sym, ap, ap₂, ◌∙◌, subst, map, filter, is_some, Option, Some, None}
 use Rattle.std.specs.Prelude.{flat_map, zip, find, option_map, if◌then◌else◌}
 use Rattle.std.specs.List.{list_all, AllByRecursion, Contains}
-use Rattle.std.proofs.lemmas.Bool.{and_parts, true≢false}
+use Rattle.std.specs.Ordering.{int_eq}
+use Rattle.std.proofs.lemmas.Bool.{and_parts, or_parts, true≢false}
 use Rattle.std.proofs.lemmas.List.{map-append}
 use Rattle.std.proofs.lemmas.List.Elements.{filter-append}
-use Rattle.gd_variant.specs.Words.{first_some, has_nat, has_text, numbered, or_else, some_is, text_eq}
+use Rattle.gd_variant.specs.Words.{first_some, has_int, has_nat, has_text, numbered, or_else, some_is, text_eq}
 use Rattle.gd_variant.specs.declared.value.Variant.{Variant}
 use Rattle.gd_variant.specs.declared.value.Variant.TheVariants.{Nil}
 use Rattle.scene_model.specs.declared.scene.Prop.{Prop}
@@ -16,32 +17,37 @@ use Rattle.scene_model.specs.Syncs.{Syncer, change_props, fixed_syncers, row_syn
 use Rattle.scene_model.specs.Valid.{IsValidScene}
 use Rattle.scene_model.proofs.TextLaws.{text_eq-sym}
 use Rattle.peer_model.specs.Heard.{Who, Heard}
+use Rattle.peer_model.specs.Peers.{brought_up, is_up, peers_up, taken_down}
 use Rattle.peer_model.specs.Rows.{OwnRow, own_rows, syncs_at}
 use Rattle.peer_model.specs.Values.{argument_prop, own_value, props_in}
-use Rattle.peer_model.specs.Visible.{own_syncers, row_syncers_of, visible_to}
+use Rattle.peer_model.specs.Visible.{own_syncers, row_syncers_of, sees, visible_to}
 use Rattle.peer_model.specs.Updates.{all_spawn_props, assign_argument}
 use Rattle.peer_model.specs.Changes.{is_frame}
 use Rattle.peer_model.specs.View.{tree_of}
 use Rattle.headless_tree.specs.Nodes.{value_at}
 use Rattle.peer_laws.specs.Facts.{Facts}
 use Rattle.peer_laws.proofs.Once.{found_is_has}
+use Rattle.peer_laws.proofs.Numbers.{int_is}
+use Rattle.peer_laws.proofs.Ups.{has_up}
 use Rattle.peer_laws.proofs.OwnValues.{own_row_there, value_there}
 use Rattle.world_laws.specs.Done.{AllDone}
 use Rattle.world_laws.proofs.Properties.{assign_names}
 use Rattle.sight_laws.specs.Sights.{FixedSight, fixed_sight, is_visible, row_sight, sight_of}
 use Rattle.sight_laws.specs.Told.{row_first_value, row_first_told}
+use Rattle.sight_laws.specs.Seen.{is_still}
+use Rattle.sight_laws.proofs.Events.{up_alone, down_alone}
 use Rattle.sight_laws.proofs.Firsts.{assigned_there}
 use Rattle.sight_laws.proofs.Settings.{visible_is_kept}
-use Rattle.delta_props.specs.Telling.{ToldValues}
-use Rattle.telling_laws.specs.Telling.{told_all}
+use Rattle.delta_props.specs.Telling.{ToldValues, without_peer}
+use Rattle.telling_laws.specs.Telling.{IsTold, told_all}
 use Rattle.telling_laws.specs.Collecting.{sync_ref}
-use Rattle.telling_laws.proofs.Events.{AreFirst}
+use Rattle.telling_laws.proofs.Events.{AreFirst, puts_still, puts_up, puts_down}
 use Rattle.telling_laws.proofs.Firsts.{first_row}
-use Rattle.telling_laws.proofs.Nexts.{own_of}
+use Rattle.telling_laws.proofs.Nexts.{own_of, told_next}
 use Rattle.telling_laws.proofs.Rows.{rows_told}
 use Rattle.telling_laws.proofs.Serving.{IsFixed, all_fixed, path_id}
 use Rattle.peer_steps.specs.Rows.{kept_row}
-use Rattle.peer_steps.specs.Tellings.{argument_for, fixed_ref, fixed_seen, row_seen, rows_seen, rows_shown, shown_told, shown_value, syncs_seen}
+use Rattle.peer_steps.specs.Tellings.{argument_for, fixed_ref, fixed_seen, row_seen, rows_seen, rows_shown, first_told, told_up, shown_told, shown_value, syncs_seen}
 use Rattle.peer_steps.specs.Track.{Track}
 
 -- values of a row that is shown
@@ -169,3 +175,50 @@ module _ (who : Who) (es : List Heard) (valid : IsValidScene who.scene) (b : ℤ
       ap₂ (λ xs ys. xs ++ ys) (ap (fixed_seen b who.scene) fixed ∙ fixed_refs (fixed_syncers who.scene who.id) (all_fixed who.scene who.id)) (ap₂ (rows_seen b) rows seen ∙ rows_refs (own_rows who es))
       ∙ sym (map-append sync_ref (filter sees_it (fixed_syncers who.scene who.id)) (filter sees_it (flat_map (row_syncers_of who) (own_rows who es))))
       ∙ ap (map sync_ref) (sym (filter-append sees_it (fixed_syncers who.scene who.id) (flat_map (row_syncers_of who) (own_rows who es))))
+
+-- told values after events
+
+-- an event that spawns, despawns, sets and tells nothing, and leaves the peers
+pub still_told : (who : Who) (es : List Heard) (e : Heard) (t : ToldValues) → IsValidScene who.scene → AllDone who (e ∷ es) → is_frame e ≡ false → is_still e ≡ true → brought_up e ≡ None → taken_down e ≡ None → IsTold who es t → IsTold who (e ∷ es) t
+still_told who es e t v all plain still up down told = told_next who es e t t v all plain told (puts_still who es e v all up down t told.once still)
+
+-- a peer comes up
+pub up_told : (who : Who) (es : List Heard) (e : Heard) (c : ℤ) (t : ToldValues) → IsValidScene who.scene → (all : AllDone who (e ∷ es)) → Facts who (e ∷ es) → brought_up e ≡ Some c → IsTold who es t
+    → IsTold who (e ∷ es) (told_up who (tree_of who (e ∷ es)) c (map (kept_row who) (filter (sees who es c) (own_rows who es))) t)
+up_told who es e c t v all facts is told =
+    let plain = (up_alone e c is).2 in
+    let f : OwnRow → Syncer → List Variant = λ r. shown_told who.scene (tree_of who (e ∷ es)) (kept_row who r) in
+    let start = told_all c (first_told who) (fixed_syncers who.scene who.id) t in
+    subst (IsTold who (e ∷ es)) (sym (rows_are who (tree_of who (e ∷ es)) c (filter (sees who es c) (own_rows who es)) start))
+    (told_next who es e t (rows_told who c f (filter (sees who es c) (own_rows who es)) start) v all plain told (puts_up who es e v all f (shown_first who es e v all plain facts) t told.once c is))
+
+-- and goes down
+pub down_told : (who : Who) (es : List Heard) (e : Heard) (c : ℤ) (t : ToldValues) → IsValidScene who.scene → AllDone who (e ∷ es) → taken_down e ≡ Some c → IsTold who es t → IsTold who (e ∷ es) (without_peer c t)
+down_told who es e c t v all is told = told_next who es e t (without_peer c t) v all (down_alone e c is).2 told (puts_down who es e v all t told.once c is)
+
+-- a peer among those that pass a test
+has_filtered : (p : ℤ → Bool) (b : ℤ) (bs : List ℤ) → has_int b (filter p bs) ≡ (p b && has_int b bs)
+has_filtered p b [] = sym (and_false (p b))
+  where
+    and_false : (x : Bool) → (x && false) ≡ false
+    and_false true = refl
+    and_false false = refl
+has_filtered p b (c ∷ bs) = step (int_eq b c) refl (p c) refl (has_filtered p b bs)
+  where
+    -- where it isn't this one
+    other : (t : Bool) → int_eq b c ≡ false → has_int b (cond t (c ∷ filter p bs) (filter p bs)) ≡ has_int b (filter p bs)
+    other true e = ap (λ x. x || has_int b (filter p bs)) e
+    other false e = refl
+
+    step : (s : Bool) → int_eq b c ≡ s → (t : Bool) → p c ≡ t → has_int b (filter p bs) ≡ (p b && has_int b bs) → has_int b (cond (p c) (c ∷ filter p bs) (filter p bs)) ≡ (p b && (int_eq b c || has_int b bs))
+    step true e true f more = ap₂ (λ x y. has_int b (cond x (c ∷ filter p bs) (filter p bs))) f e ∙ ap (λ x. x || has_int b (filter p bs)) e ∙ sym (ap₂ (λ x y. x && (y || has_int b bs)) (ap p (int_is b c e) ∙ f) e)
+    step true e false f more = ap (λ x. has_int b (cond x (c ∷ filter p bs) (filter p bs))) f ∙ more ∙ ap (λ x. x && has_int b bs) (ap p (int_is b c e) ∙ f) ∙ sym (ap (λ x. x && (int_eq b c || has_int b bs)) (ap p (int_is b c e) ∙ f))
+    step false e t f more = other (p c) e ∙ more ∙ sym (ap (λ x. p b && (x || has_int b bs)) e)
+
+-- a row with who sees it
+pub shown_has : (who : Who) (es : List Heard) (b : ℤ) (r : OwnRow) → is_up es b ≡ true → has_int b (row_sight who es r).shown ≡ sees who es b r
+shown_has who es b r up = has_filtered (λ c. sees who es c r) b (peers_up es) ∙ ap (λ x. sees who es b r && x) (has_up es b ∙ up) ∙ and_true (sees who es b r)
+  where
+    and_true : (x : Bool) → (x && true) ≡ x
+    and_true true = refl
+    and_true false = refl

@@ -1,7 +1,7 @@
 -- What is kept of told values after an event that is no frame, by what the event leaves and what it puts.
 use Rattle.std.proofs.Common.{◌≡◌, ℕ, ℤ, Bool, true, false, cond, List, [], ◌∷◌, ◌++◌, refl, sym, ap, ◌∙◌, subst, map, filter, nat_lt, Option, Some, None}
 use Rattle.std.specs.Prelude.{option_map, if◌then◌else◌}
-use Rattle.std.specs.List.{list_all, AllByRecursion, Contains}
+use Rattle.std.specs.List.{list_all, AllByRecursion, Contains, IsDistinct}
 use Rattle.std.proofs.lemmas.Bool.{true≢false}
 use Rattle.std.proofs.lemmas.List.Elements.{recursion_from_All, All-contains_itself}
 use Rattle.std.proofs.lemmas.List.Folds.{list_all-map}
@@ -110,3 +110,8 @@ told_next who es e t u v all plain told puts = record {
             let before = seen_before who es b e r (own_of who (e ∷ es) b r has) was in
             ap (option_map (map Some)) (puts.row_stays b r y up has mine was) ∙ told.rows b r y before.0 before.1 mine ∙ ap Some (sym (sync_row_stays who es e b r y v all plain up has mine was))
         step false wasn't = puts.row_shown b r y up has mine wasn't ∙ ap Some (sym (sync_row_shown who es e b r y v all plain up has mine wasn't))
+
+-- before the first event nobody was told anything
+pub none_told : (who : Who) → IsTold who [] []
+unfolding IsDistinct
+none_told who = record { once = tt; fixed = λ b y up has. absurd (true≢false (sym up)); rows = λ b r y up has mine. absurd (true≢false (sym up)) }
