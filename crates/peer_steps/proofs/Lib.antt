@@ -21,7 +21,9 @@ pub mod Packets
 pub mod LinkSteps
 pub mod OwnSteps
 pub mod SightSteps
+pub mod Entries
 pub mod ReceivedSteps
+pub mod FrameSteps
 pub mod Whole
 pub mod Clauses
 pub mod Fitting

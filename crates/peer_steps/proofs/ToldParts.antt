@@ -11,14 +11,16 @@ use Rattle.gd_variant.specs.declared.value.Variant.{Variant}
 use Rattle.gd_variant.specs.declared.value.Variant.TheVariants.{Nil}
 use Rattle.scene_model.specs.declared.scene.Prop.{Prop}
 use Rattle.scene_model.specs.declared.scene.SyncDef.{SyncDef}
-use Rattle.scene_model.specs.Lookup.{has_prop, prop_names, scene_at, value_in}
+use Rattle.scene_model.specs.declared.event.SpawnOp.{SpawnOp}
+use Rattle.scene_model.specs.declared.event.Op.TheVariants.{Despawn}
+use Rattle.scene_model.specs.Lookup.{fixed_paths, has_prop, prop_names, scene_at, value_in}
 use Rattle.scene_model.specs.Nodes.{Live}
 use Rattle.scene_model.specs.Syncs.{Syncer, change_props, fixed_syncers, row_syncer}
 use Rattle.scene_model.specs.Valid.{IsValidScene}
 use Rattle.scene_model.proofs.TextLaws.{text_eq-sym}
-use Rattle.peer_model.specs.Heard.{Who, Heard}
+use Rattle.peer_model.specs.Heard.{Who, Heard, does}
 use Rattle.peer_model.specs.Peers.{brought_up, is_up, peers_up, taken_down}
-use Rattle.peer_model.specs.Rows.{OwnRow, own_rows, syncs_at}
+use Rattle.peer_model.specs.Rows.{OwnRow, own_rows, row_made, spawn_in, syncs_at}
 use Rattle.peer_model.specs.Values.{argument_prop, own_value, props_in}
 use Rattle.peer_model.specs.Visible.{own_syncers, row_syncers_of, sees, visible_to}
 use Rattle.peer_model.specs.Updates.{all_spawn_props, assign_argument}
@@ -34,20 +36,21 @@ use Rattle.world_laws.specs.Done.{AllDone}
 use Rattle.world_laws.proofs.Properties.{assign_names}
 use Rattle.sight_laws.specs.Sights.{FixedSight, fixed_sight, is_visible, row_sight, sight_of}
 use Rattle.sight_laws.specs.Told.{row_first_value, row_first_told}
-use Rattle.sight_laws.specs.Seen.{is_still}
-use Rattle.sight_laws.proofs.Events.{up_alone, down_alone}
+use Rattle.sight_laws.specs.Seen.{SightSet, is_still, set_in}
+use Rattle.sight_laws.proofs.Events.{up_alone, down_alone, set_alone, spawn_alone, up_same}
 use Rattle.sight_laws.proofs.Firsts.{assigned_there}
 use Rattle.sight_laws.proofs.Settings.{visible_is_kept}
 use Rattle.delta_props.specs.Telling.{ToldValues, without_peer}
-use Rattle.telling_laws.specs.Telling.{IsTold, told_all}
+use Rattle.telling_laws.specs.Telling.{IsTold, over_peers, told_all, told_shift}
 use Rattle.telling_laws.specs.Collecting.{sync_ref}
-use Rattle.telling_laws.proofs.Events.{AreFirst, puts_still, puts_up, puts_down}
+use Rattle.telling_laws.proofs.Events.{AreFirst, puts_still, puts_fixed_set, puts_spawn, puts_despawn, puts_row_set, puts_up, puts_down}
 use Rattle.telling_laws.proofs.Firsts.{first_row}
 use Rattle.telling_laws.proofs.Nexts.{own_of, told_next}
+use Rattle.telling_laws.proofs.RowIds.{row_ids}
 use Rattle.telling_laws.proofs.Rows.{rows_told}
 use Rattle.telling_laws.proofs.Serving.{IsFixed, all_fixed, path_id}
 use Rattle.peer_steps.specs.Rows.{kept_row}
-use Rattle.peer_steps.specs.Tellings.{argument_for, fixed_ref, fixed_seen, row_seen, rows_seen, rows_shown, first_told, told_up, shown_told, shown_value, syncs_seen}
+use Rattle.peer_steps.specs.Tellings.{argument_for, fixed_ref, fixed_seen, row_seen, rows_seen, rows_shown, first_told, hidden_from_all, told_shifts, told_up, shown_to_all, shown_told, shown_value, syncs_seen}
 use Rattle.peer_steps.specs.Track.{Track}
 
 -- values of a row that is shown
@@ -222,3 +225,36 @@ shown_has who es b r up = has_filtered (λ c. sees who es c r) b (peers_up es) �
     and_true : (x : Bool) → (x && true) ≡ x
     and_true true = refl
     and_true false = refl
+
+-- a spawn, by the peers to which its row is shown
+pub spawn_told_is : (who : Who) (es : List Heard) (e : Heard) (o : SpawnOp) (t : ToldValues) → IsValidScene who.scene → AllDone who (e ∷ es) → Facts who (e ∷ es) → spawn_in e ≡ Some o → IsTold who es t
+    → IsTold who (e ∷ es) (shown_to_all who.scene (tree_of who (e ∷ es)) (kept_row who (row_made who es o)) (row_sight who (e ∷ es) (row_made who es o)).shown t)
+spawn_told_is who es e o t v all facts is told =
+    let alone = spawn_alone e o is in
+    told_next who es e t (shown_to_all who.scene (tree_of who (e ∷ es)) (kept_row who (row_made who es o)) (row_sight who (e ∷ es) (row_made who es o)).shown t) v all alone.4 told
+    (puts_spawn who es e v all alone.2 alone.3 (λ r. shown_told who.scene (tree_of who (e ∷ es)) (kept_row who r)) (shown_first who es e v all alone.4 facts) t told.once o is (row_sight who (e ∷ es) (row_made who es o)).shown
+    (λ b up k. shown_has who (e ∷ es) b (row_made who es o) up ∙ k))
+
+-- a despawn, by the peers to which its row was shown
+pub despawn_told_is : (who : Who) (es : List Heard) (path : List ℕ) (r : OwnRow) (bs : List ℤ) (t : ToldValues) → IsValidScene who.scene → AllDone who (does (Despawn path) ∷ es) → Contains (own_rows who es) r → r.path ≡ path → IsTold who es t
+    → IsTold who (does (Despawn path) ∷ es) (hidden_from_all r.ids bs t)
+despawn_told_is who es path r bs t v all has at told =
+    subst (λ ids. IsTold who (does (Despawn path) ∷ es) (hidden_from_all ids bs t)) (row_ids who es v all.1 r has)
+    (told_next who es (does (Despawn path)) t (hidden_from_all (map (λ (z : Syncer). z.id) (row_syncers_of who r)) bs t) v all refl told (puts_despawn who es (does (Despawn path)) v all refl refl t told.once path r bs refl has at))
+
+-- a setting of an own row
+pub set_told_is : (who : Who) (es : List Heard) (e : Heard) (s : SightSet) (r : OwnRow) (t : ToldValues) → IsValidScene who.scene → AllDone who (e ∷ es) → Facts who (e ∷ es) → set_in e ≡ Some s → Contains (own_rows who es) r → r.path ≡ s.path → IsTold who es t
+    → IsTold who (e ∷ es) (told_shifts who.scene (tree_of who (e ∷ es)) (kept_row who r) (row_sight who es r).shown (row_sight who (e ∷ es) r).shown (peers_up es) t)
+set_told_is who es e s r t v all facts is has at told =
+    let alone = set_alone e s is in
+    let f : OwnRow → Syncer → List Variant = λ q. shown_told who.scene (tree_of who (e ∷ es)) (kept_row who q) in
+    subst (λ ids. IsTold who (e ∷ es) (over_peers (λ b. told_shift b (f r) (row_syncers_of who r) ids (has_int b (row_sight who es r).shown) (has_int b (row_sight who (e ∷ es) r).shown)) (peers_up es) t)) (row_ids who es v all.1 r has)
+    (told_next who es e t (over_peers (λ b. told_shift b (f r) (row_syncers_of who r) (map (λ (z : Syncer). z.id) (row_syncers_of who r)) (has_int b (row_sight who es r).shown) (has_int b (row_sight who (e ∷ es) r).shown)) (peers_up es) t) v all alone.4 told
+    (puts_row_set who es e v all alone.2 alone.3 f (shown_first who es e v all alone.4 facts) t told.once s is r has at (peers_up es) (λ b up. has_up es b ∙ sym (up_same e es alone.2 alone.3 b) ∙ up)
+    (λ b. has_int b (row_sight who es r).shown) (λ b. has_int b (row_sight who (e ∷ es) r).shown) (λ b up. shown_has who es b r up) (λ b up. shown_has who (e ∷ es) b r up)))
+
+-- a setting of a fixed synchronizer
+pub fixed_told_is : (who : Who) (es : List Heard) (e : Heard) (s : SightSet) (t : ToldValues) → IsValidScene who.scene → AllDone who (e ∷ es) → set_in e ≡ Some s → has_text s.path (fixed_paths who.scene) ≡ true → IsTold who es t → IsTold who (e ∷ es) t
+fixed_told_is who es e s t v all is fixed told =
+    let alone = set_alone e s is in
+    told_next who es e t t v all alone.4 told (puts_fixed_set who es e v all alone.2 alone.3 t told.once s is fixed)
