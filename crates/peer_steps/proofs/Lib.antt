@@ -27,3 +27,4 @@ pub mod FrameSteps
 pub mod Whole
 pub mod Clauses
 pub mod Fitting
+pub mod EntriesFit

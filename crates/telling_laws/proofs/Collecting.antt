@@ -1,49 +1,36 @@
 -- What a frame collects: the Tells of the definitions, in order, and what counts as told then.
-use Rattle.std.proofs.Common.{◌≡◌, ℕ, ◌+◌, ◌≤◌, ℤ, Bool, true, false, cond, not, ◌&&◌, ◌||◌, List, [], ◌∷◌, ◌++◌, refl, sym, ap, ap₂, ◌∙◌, subst, map, filter, nat_eq, nat_lt, nat_le, arith, Option, Some, None}
-use Rattle.std.specs.Prelude.{flat_map, int_lt, option_map, if◌then◌else◌}
-use Rattle.std.specs.List.{list_all, list_any, cons_option, AllByRecursion, Contains}
+use Rattle.std.proofs.Common.{◌≡◌, ℕ, ◌+◌, ◌≤◌, ℤ, Bool, true, false, cond, List, [], ◌∷◌, ◌++◌, refl, sym, ap, ap₂, ◌∙◌, subst, map, filter, nat_eq, nat_lt, nat_le, arith, Option, Some, None}
+use Rattle.std.specs.Prelude.{flat_map, option_map, if◌then◌else◌}
+use Rattle.std.specs.List.{list_all, cons_option, AllByRecursion}
 use Rattle.std.specs.Ordering.{int_eq}
 use Rattle.std.proofs.lemmas.Bool.{and_parts, or_parts, ne_eqb, eq-eqb, leb-true, ltb-true, true≢false}
-use Rattle.std.proofs.lemmas.List.Elements.{recursion_from_All, All-contains_itself}
-use Rattle.gd_variant.specs.Words.{has_int, has_nat}
+use Rattle.gd_variant.specs.Words.{has_nat}
 use Rattle.gd_variant.specs.declared.value.Variant.{Variant}
 use Rattle.gd_variant.specs.declared.message.DeltaEntry.{DeltaEntry}
-use Rattle.scene_model.specs.declared.scene.Scene.{Scene}
 use Rattle.scene_model.specs.declared.scene.SyncDef.{SyncDef}
-use Rattle.scene_model.specs.declared.event.Op.TheVariants.{Frame}
 use Rattle.scene_model.specs.declared.spawn.SyncRef.{SyncRef}
 use Rattle.scene_model.specs.Nodes.{Live}
 use Rattle.scene_model.specs.Syncs.{Syncer, change_props, fixed_bit, fixed_syncers}
-use Rattle.scene_model.specs.Valid.{IsValidScene}
-use Rattle.peer_model.specs.Heard.{Who, Heard, does}
-use Rattle.peer_model.specs.Peers.{is_up}
-use Rattle.peer_model.specs.Rows.{OwnRow, own_rows}
+use Rattle.peer_model.specs.Heard.{Who, Heard}
+use Rattle.peer_model.specs.Rows.{own_rows}
 use Rattle.peer_model.specs.Values.{own_value}
-use Rattle.peer_model.specs.Visible.{own_syncers, row_syncers_of, sees, visible_rows, visible_to}
+use Rattle.peer_model.specs.Visible.{own_syncers}
 use Rattle.peer_model.specs.Updates.{Tell, masked}
 use Rattle.peer_model.specs.Changes.{mask_of}
-use Rattle.peer_laws.proofs.Each.{every_joined, every_kept, every_left, all_has}
-use Rattle.peer_laws.proofs.Joined.{map-map}
-use Rattle.peer_laws.proofs.Numbers.{int_is, int_comm, lt_apart}
-use Rattle.peer_laws.proofs.Sorted.{is_rising}
+use Rattle.peer_laws.proofs.Each.{every_joined, every_kept}
 use Rattle.world_laws.specs.Done.{AllDone}
-use Rattle.world_laws.specs.Marks.{rises, own_marks, ids_in, mark_syncers}
+use Rattle.world_laws.specs.Marks.{rises, own_marks, mark_syncers}
 use Rattle.world_laws.proofs.Found.{syncer_ids, fixed_ids_rise, rows_ids_rise, rows_ids_low}
-use Rattle.world_laws.proofs.Law.{every_weaker, flat_own}
-use Rattle.world_laws.proofs.Rising.{none_below, rises_from}
+use Rattle.world_laws.proofs.Law.{flat_own}
+use Rattle.world_laws.proofs.Rising.{none_below}
 use Rattle.sight_laws.specs.Told.{told_values, tell_by}
-use Rattle.sight_laws.proofs.Frames.{told_at_frame}
-use Rattle.sight_laws.proofs.Lists.{of_member, every_both, every_unkept}
-use Rattle.sight_laws.proofs.Sends.{sees_left}
-use Rattle.sight_laws.proofs.Stepping.{rows_same}
-use Rattle.sight_laws.proofs.Unseen.{told_unseen_stays}
-use Rattle.delta_props.specs.Telling.{ToldValues, is_key, told_of, with_told, untold, value_of, told_by, told_one, told_sync, sync_named, with_first, collected}
-use Rattle.telling_laws.specs.Telling.{HasOnce, IsTold, Tells}
-use Rattle.telling_laws.specs.Collecting.{sync_ref, told_frames}
+use Rattle.sight_laws.proofs.Lists.{every_both}
+use Rattle.delta_props.specs.Telling.{ToldValues, is_key, told_of, with_told, untold, value_of, told_by, told_sync, sync_named, collected}
+use Rattle.telling_laws.specs.Telling.{HasOnce, Tells}
+use Rattle.telling_laws.specs.Collecting.{sync_ref}
 use Rattle.telling_laws.proofs.Keys.{told_other, told_once}
-use Rattle.telling_laws.proofs.Several.{IsOnly, other_peer, other_sync}
-use Rattle.telling_laws.proofs.Ids.{own_marks_rise, own_marks_low, own_only, fixed_member, row_member}
-use Rattle.telling_laws.proofs.Nexts.{own_of}
+use Rattle.telling_laws.proofs.Several.{other_peer, other_sync}
+use Rattle.telling_laws.proofs.Ids.{own_marks_rise, own_marks_low}
 use Rattle.telling_laws.proofs.Telling.{tells_in, mask_now, same_untold, same_told, tells_one, counts_one}
 
 -- ids that differ
@@ -77,9 +64,10 @@ joined_differ : (n m : ℕ) (xs ys : List Syncer) → n ≤ m → rises m (synce
 joined_differ n m [] ys h r l d = d
 joined_differ n m (x ∷ xs) ys h r l d =
     let parts = and_parts (nat_le m x.id) (rises (x.id + 1) (syncer_ids xs)) r in
-    let low = leb-true m x.id parts.0 in
-    (every_joined (λ (z : Syncer). nat_eq x.id z.id ≡ false) xs ys (lacks_id x.id xs (none_below (x.id + 1) x.id (omega arith) (syncer_ids xs) parts.1)) (low_lacks x.id n ys (omega (arith, h, low)) l),
-    joined_differ n (x.id + 1) xs ys (omega (arith, h, low)) parts.1 l d)
+    let low = leb-true m x.id parts.0 in (
+      every_joined (λ (z : Syncer). nat_eq x.id z.id ≡ false) xs ys (lacks_id x.id xs (none_below (x.id + 1) x.id (omega arith) (syncer_ids xs) parts.1)) (low_lacks x.id n ys (omega (arith, h, low)) l),
+      joined_differ n (x.id + 1) xs ys (omega (arith, h, low)) parts.1 l d,
+    )
 
 pub kept_differ : (p : Syncer → Bool) (ys : List Syncer) → Differ ys → Differ (filter p ys)
 kept_differ p [] h = tt

@@ -1,5 +1,5 @@
 -- What each kind of event makes of what is kept of told values.
-use Rattle.std.proofs.Common.{◌≡◌, ℕ, ℤ, Bool, true, false, not, ◌&&◌, ◌||◌, List, [], ◌∷◌, ◌++◌, refl, sym, ap, ap₂, ◌∙◌, subst, map, filter, nat_eq, Option, Some, None, ◌⊎◌, inl, inr}
+use Rattle.std.proofs.Common.{◌≡◌, ℕ, ℤ, Bool, true, false, not, ◌||◌, List, [], ◌∷◌, ◌++◌, refl, sym, ap, ap₂, ◌∙◌, subst, map, filter, nat_eq, Some, None, ◌⊎◌, inl, inr}
 use Rattle.std.specs.Prelude.{option_map, if◌then◌else◌}
 use Rattle.std.proofs.lemmas.List.{append-nil}
 use Rattle.std.proofs.lemmas.List.Elements.{recursion_from_All, All-contains_itself, Contains-push, Contains-append_cases}
@@ -21,8 +21,8 @@ use Rattle.peer_model.specs.Peers.{is_up, was_up, brought_up, taken_down}
 use Rattle.peer_model.specs.Rows.{OwnRow, own_rows, row_made, spawn_in, spawns, despawns, spawned_path}
 use Rattle.peer_model.specs.Values.{default_value}
 use Rattle.peer_model.specs.Visible.{sees, row_syncers_of, visible_rows}
-use Rattle.peer_model.specs.Changes.{is_frame, numbers_of}
-use Rattle.peer_laws.proofs.Each.{every_joined, every_kept}
+use Rattle.peer_model.specs.Changes.{numbers_of}
+use Rattle.peer_laws.proofs.Each.{every_kept}
 use Rattle.peer_laws.proofs.Filters.{all_pass}
 use Rattle.peer_laws.proofs.Numbers.{int_is}
 use Rattle.peer_laws.proofs.Ups.{was_up_if_up}
@@ -33,14 +33,14 @@ use Rattle.world_laws.proofs.Sending.{brought_new}
 use Rattle.sight_laws.specs.Seen.{SightSet, set_in, is_still}
 use Rattle.sight_laws.specs.Told.{row_first_told, fixed_first_told}
 use Rattle.sight_laws.proofs.Events.{still_alone, up_alone, down_alone, spawn_alone, set_alone, up_same, up_more, up_less}
-use Rattle.sight_laws.proofs.Later.{sets_at, unspawned, spawns_is}
-use Rattle.sight_laws.proofs.Lists.{of_member, every_of_all, every_both, every_true}
+use Rattle.sight_laws.proofs.Later.{sets_at, spawns_is}
+use Rattle.sight_laws.proofs.Lists.{of_member, every_of_all, every_both}
 use Rattle.sight_laws.proofs.Sends.{sees_left, none_set}
 use Rattle.sight_laws.proofs.Stepping.{rows_same, rows_more, rows_unspawned}
-use Rattle.delta_props.specs.Telling.{ToldValues, is_key, told_of, without_peer}
+use Rattle.delta_props.specs.Telling.{ToldValues, told_of, without_peer}
 use Rattle.telling_laws.specs.Telling.{told_all, told_none, told_shift, over_peers, HasOnce}
 use Rattle.telling_laws.proofs.Keys.{left_other, left_once}
-use Rattle.telling_laws.proofs.Several.{IsOnly, all_once, all_other, all_other_peer, all_told, none_once, none_other, none_other_peer}
+use Rattle.telling_laws.proofs.Several.{all_once, all_other, all_other_peer, all_told, none_once, none_other, none_other_peer}
 use Rattle.telling_laws.proofs.Ids.{fixed_member, row_member, only_fixed, only_row, row_apart, fixed_apart}
 use Rattle.telling_laws.proofs.Nexts.{own_of, seen_is, seen_there, seen_number, seen_before, Puts}
 use Rattle.telling_laws.proofs.Peers.{IsForOne, over_once, over_kept, over_put}

@@ -1,5 +1,5 @@
 -- The values that a peer has at first are there: each on-change property is one of its node.
-use Rattle.std.proofs.Common.{◌≡◌, ℕ, ℤ, Bool, true, false, List, [], ◌∷◌, refl, sym, ap, ap₂, ◌∙◌, subst, map, is_some, Option, Some, None}
+use Rattle.std.proofs.Common.{◌≡◌, ℕ, ℤ, true, false, List, [], ◌∷◌, refl, sym, ap, ap₂, ◌∙◌, subst, map, is_some, Option, Some, None}
 use Rattle.std.specs.Prelude.{flat_map, option_and_then}
 use Rattle.std.specs.List.{list_all, AllByRecursion, Contains}
 use Rattle.std.proofs.lemmas.Bool.{and_parts}
@@ -24,7 +24,7 @@ use Rattle.world_laws.specs.Marks.{all_syncers, mark_syncers, own_marks}
 use Rattle.world_laws.proofs.Law.{marks_are_seen, flat_own}
 use Rattle.world_laws.proofs.Own.{own_apart, own_unfixed, is_unfixed}
 use Rattle.world_laws.proofs.Properties.{AreThere, all_are_there}
-use Rattle.sight_laws.specs.Told.{told_to, told_values, fixed_first_told, row_first_value, row_first_told}
+use Rattle.sight_laws.specs.Told.{told_to, fixed_first_told, row_first_value}
 use Rattle.sight_laws.proofs.Firsts.{sync_fixed_at_first, sync_fixed_stays, sync_row_shown}
 use Rattle.sight_laws.proofs.Lists.{of_member}
 use Rattle.sight_laws.proofs.ToldRows.{told_whole}

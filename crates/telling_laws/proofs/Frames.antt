@@ -1,12 +1,11 @@
 -- A frame, peer by peer: each is told what the definitions say, and what is kept then says what all events say.
-use Rattle.std.proofs.Common.{◌≡◌, ℕ, ℤ, Bool, true, false, ◌&&◌, ◌||◌, List, [], ◌∷◌, refl, sym, ap, ◌∙◌, subst, map, filter, nat_eq, Option, Some}
+use Rattle.std.proofs.Common.{◌≡◌, ℕ, ℤ, Bool, true, false, ◌||◌, List, [], ◌∷◌, refl, sym, ap, ◌∙◌, subst, map, filter, nat_eq, Some}
 use Rattle.std.specs.Prelude.{flat_map, int_lt, option_map, if◌then◌else◌}
 use Rattle.std.specs.List.{list_all, AllByRecursion, Contains}
 use Rattle.std.specs.Ordering.{int_eq}
 use Rattle.std.proofs.lemmas.Bool.{and_parts, or_parts}
 use Rattle.std.proofs.lemmas.List.Elements.{recursion_from_All, All-contains_itself, filter-append}
 use Rattle.gd_variant.specs.Words.{has_int}
-use Rattle.gd_variant.specs.declared.value.Variant.{Variant}
 use Rattle.scene_model.specs.declared.event.Op.TheVariants.{Frame}
 use Rattle.scene_model.specs.Nodes.{Live}
 use Rattle.scene_model.specs.Syncs.{Syncer, change_props, fixed_syncers}
@@ -25,7 +24,6 @@ use Rattle.peer_laws.proofs.Ups.{has_up}
 use Rattle.peer_laws.proofs.Tests.{never}
 use Rattle.world_laws.specs.Done.{AllDone}
 use Rattle.world_laws.proofs.Law.{every_weaker, unseen}
-use Rattle.sight_laws.specs.Told.{told_values}
 use Rattle.sight_laws.proofs.Frames.{told_at_frame}
 use Rattle.sight_laws.proofs.Lists.{of_member, every_both, every_unkept, every_of_all, every_true, filter_same}
 use Rattle.sight_laws.proofs.Later.{unspawned}
@@ -36,7 +34,7 @@ use Rattle.delta_props.specs.Telling.{ToldValues, told_of, collected}
 use Rattle.telling_laws.specs.Telling.{HasOnce, IsTold, Tells}
 use Rattle.telling_laws.specs.Collecting.{sync_ref, told_frames}
 use Rattle.telling_laws.proofs.Several.{IsOnly}
-use Rattle.telling_laws.proofs.Ids.{own_only, fixed_member, row_member, flat_every}
+use Rattle.telling_laws.proofs.Ids.{own_only, fixed_member, row_member}
 use Rattle.telling_laws.proofs.Nexts.{own_of, seen_is, seen_there}
 use Rattle.telling_laws.proofs.Collecting.{HasNoId, Serves, own_differ, kept_differ, collected_once, collected_peer, collected_other, counts}
 

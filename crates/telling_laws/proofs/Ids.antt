@@ -1,12 +1,12 @@
 -- No two synchronizers of a peer have one id.
-use Rattle.std.proofs.Common.{◌≡◌, ℕ, ℤ, Bool, true, false, not, List, [], ◌∷◌, ◌++◌, refl, sym, ap, ap₂, ◌∙◌, subst, map, filter, nat_eq, nat_lt, Option, Some}
-use Rattle.std.specs.Prelude.{flat_map, is_some, None}
+use Rattle.std.proofs.Common.{◌≡◌, true, false, List, [], ◌∷◌, ◌++◌, refl, sym, ap, ◌∙◌, subst, filter, nat_eq, nat_lt, Some}
+use Rattle.std.specs.Prelude.{flat_map, is_some}
 use Rattle.std.specs.List.{list_all, AllByRecursion, Contains}
-use Rattle.std.proofs.lemmas.Bool.{eqb-true, true≢false}
+use Rattle.std.proofs.lemmas.Bool.{eqb-true}
 use Rattle.std.proofs.lemmas.List.Elements.{recursion_from_All, All-contains_itself}
 use Rattle.gd_variant.specs.Words.{has_text, text_eq}
 use Rattle.scene_model.specs.declared.scene.Node.{Node}
-use Rattle.scene_model.specs.Lookup.{fixed_node, fixed_paths}
+use Rattle.scene_model.specs.Lookup.{fixed_paths}
 use Rattle.scene_model.specs.Syncs.{Syncer, fixed_syncers, fixed_bit, syncer_with}
 use Rattle.scene_model.specs.Valid.{IsValidScene}
 use Rattle.scene_model.proofs.TextLaws.{text_eq-same}
@@ -19,7 +19,7 @@ use Rattle.peer_laws.proofs.Each.{all_each, every_left, every_right}
 use Rattle.peer_laws.proofs.Filters.{filter_all}
 use Rattle.peer_laws.proofs.Once.{found_is_has}
 use Rattle.world_laws.specs.Done.{AllDone}
-use Rattle.world_laws.specs.Marks.{Mark, all_syncers, own_marks, ids_in, rises, ever}
+use Rattle.world_laws.specs.Marks.{all_syncers, own_marks, ids_in, rises, ever}
 use Rattle.world_laws.proofs.Found.{all_found}
 use Rattle.world_laws.proofs.Law.{every_weaker, flat_own, own_part, own_rise, part_low}
 use Rattle.world_laws.proofs.Parts.{IsPart}

@@ -1,12 +1,11 @@
 -- What is kept of told values after an event that is no frame, by what the event leaves and what it puts.
-use Rattle.std.proofs.Common.{◌≡◌, ℕ, ℤ, Bool, true, false, cond, List, [], ◌∷◌, ◌++◌, refl, sym, ap, ◌∙◌, subst, map, filter, nat_lt, Option, Some, None}
+use Rattle.std.proofs.Common.{◌≡◌, ℤ, Bool, true, false, List, [], ◌∷◌, refl, sym, ap, ◌∙◌, subst, map, filter, nat_lt, Option, Some, None}
 use Rattle.std.specs.Prelude.{option_map, if◌then◌else◌}
-use Rattle.std.specs.List.{list_all, AllByRecursion, Contains, IsDistinct}
+use Rattle.std.specs.List.{AllByRecursion, Contains, IsDistinct}
 use Rattle.std.proofs.lemmas.Bool.{true≢false}
 use Rattle.std.proofs.lemmas.List.Elements.{recursion_from_All, All-contains_itself}
 use Rattle.std.proofs.lemmas.List.Folds.{list_all-map}
 use Rattle.gd_variant.specs.Words.{has_nat}
-use Rattle.gd_variant.specs.declared.value.Variant.{Variant}
 use Rattle.scene_model.specs.declared.event.SpawnOp.{SpawnOp}
 use Rattle.scene_model.specs.Syncs.{Syncer, fixed_syncers}
 use Rattle.scene_model.specs.Valid.{IsValidScene}
@@ -22,7 +21,7 @@ use Rattle.world_laws.specs.Done.{AllDone}
 use Rattle.world_laws.specs.Marks.{new_rows}
 use Rattle.world_laws.proofs.Own.{leaves, own_later}
 use Rattle.world_laws.proofs.Rising.{lower_lacks}
-use Rattle.sight_laws.specs.Told.{told_values, fixed_first_told, row_first_told}
+use Rattle.sight_laws.specs.Told.{fixed_first_told, row_first_told}
 use Rattle.sight_laws.proofs.Firsts.{sync_fixed_at_first, sync_fixed_stays, sync_row_stays, sync_row_shown}
 use Rattle.sight_laws.proofs.Lists.{of_member, every_both, every_unkept, kept_by_number}
 use Rattle.sight_laws.proofs.Stepping.{own_nums_rise}

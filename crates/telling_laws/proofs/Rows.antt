@@ -1,9 +1,8 @@
 -- What is told of rows: those of a new peer, and the synchronizers of one row.
-use Rattle.std.proofs.Common.{◌≡◌, ℕ, ℤ, Bool, true, false, ◌||◌, List, [], ◌∷◌, refl, sym, ap, ◌∙◌, map, nat_eq, Option, Some}
+use Rattle.std.proofs.Common.{◌≡◌, ℕ, ℤ, Bool, true, false, ◌||◌, List, [], ◌∷◌, refl, sym, ap, ◌∙◌, map, nat_eq, Some}
 use Rattle.std.specs.List.{list_any, AllByRecursion, Contains}
 use Rattle.std.specs.Ordering.{int_eq}
 use Rattle.std.proofs.lemmas.Bool.{or_parts, true≢false, eq-eqb}
-use Rattle.std.proofs.lemmas.List.Elements.{recursion_from_All, All-contains_itself}
 use Rattle.gd_variant.specs.Words.{has_text, text_eq}
 use Rattle.gd_variant.specs.declared.value.Variant.{Variant}
 use Rattle.scene_model.specs.Syncs.{Syncer}
@@ -17,7 +16,7 @@ use Rattle.world_laws.proofs.Law.{every_weaker}
 use Rattle.world_laws.proofs.Own.{own_apart}
 use Rattle.sight_laws.proofs.Lists.{of_member, every_both}
 use Rattle.delta_props.specs.Telling.{ToldValues, is_key, told_of}
-use Rattle.telling_laws.specs.Telling.{told_all, told_none, HasOnce}
+use Rattle.telling_laws.specs.Telling.{told_all, HasOnce}
 use Rattle.telling_laws.proofs.Several.{IsOnly, all_once, all_other, all_other_peer, all_told, other_sync}
 
 -- elements with keys apart

@@ -1,5 +1,5 @@
 -- Each synchronizer of a peer is found in its tree by its path and place, and the node that it serves has the present values.
-use Rattle.std.proofs.Common.{◌≡◌, ℕ, zero, suc, ◌+◌, ℤ, Bool, true, false, cond, not, ◌&&◌, List, [], ◌∷◌, ◌++◌, refl, sym, ap, ap₂, ◌∙◌, subst, map, arith, Option, Some, None}
+use Rattle.std.proofs.Common.{◌≡◌, ℕ, zero, suc, ◌+◌, ℤ, Bool, true, false, cond, not, ◌&&◌, List, [], ◌∷◌, refl, sym, ap, ◌∙◌, map, arith, Option, Some, None}
 use Rattle.std.specs.Prelude.{flat_map, filter_map, find, zip, slice_get, option_map, option_and_then, if◌then◌else◌}
 use Rattle.std.specs.List.{list_all, cons_option, AllByRecursion, Contains}
 use Rattle.std.specs.Ordering.{int_eq}
@@ -11,7 +11,7 @@ use Rattle.scene_model.specs.declared.scene.Prop.{Prop}
 use Rattle.scene_model.specs.declared.scene.Scene.{Scene}
 use Rattle.scene_model.specs.declared.scene.Node.{Node}
 use Rattle.scene_model.specs.declared.scene.SyncDef.{SyncDef}
-use Rattle.scene_model.specs.Lookup.{fixed_node, fixed_path_id, fixed_paths, has_prop, scene_at, sync_of, value_in}
+use Rattle.scene_model.specs.Lookup.{fixed_node, fixed_path_id, has_prop, scene_at, sync_of, value_in}
 use Rattle.scene_model.specs.Nodes.{Live, live_at, props_in}
 use Rattle.scene_model.specs.Syncs.{Syncer, change_props, fixed_syncer, fixed_syncers, row_syncer, sync_id}
 use Rattle.scene_model.specs.Valid.{IsValidScene, has_twice, names_no_prop, no_target, node_no_prop, auth_wrong}
@@ -21,7 +21,6 @@ use Rattle.peer_model.specs.Rows.{OwnRow, own_rows, syncs_at}
 use Rattle.peer_model.specs.Values.{own_value}
 use Rattle.peer_model.specs.Visible.{own_syncers, row_syncers_of}
 use Rattle.peer_model.specs.View.{authorities, fixed_now, own_live, own_values, rows_of, tree_of, values_seen}
-use Rattle.peer_laws.specs.Built.{AllAccepted}
 use Rattle.peer_laws.specs.Facts.{Facts}
 use Rattle.peer_laws.proofs.Each.{every_joined}
 use Rattle.peer_laws.proofs.OwnValues.{find_mapped, own_row_there, own_value_in}

@@ -1,14 +1,12 @@
 -- What is told to one peer of several synchronizers, and what goes of several.
-use Rattle.std.proofs.Common.{◌≡◌, ℕ, ℤ, Bool, true, false, cond, ◌&&◌, ◌||◌, List, [], ◌∷◌, refl, sym, ap, ◌∙◌, nat_eq, Option, Some, None}
+use Rattle.std.proofs.Common.{◌≡◌, ℕ, ℤ, Bool, true, false, ◌&&◌, ◌||◌, List, [], ◌∷◌, refl, ap, ◌∙◌, nat_eq, Some}
 use Rattle.std.specs.List.{list_any, AllByRecursion}
 use Rattle.std.specs.Ordering.{int_eq}
-use Rattle.std.proofs.lemmas.Bool.{and_from, eqb-true, eq-eqb}
 use Rattle.gd_variant.specs.declared.value.Variant.{Variant}
 use Rattle.scene_model.specs.Syncs.{Syncer}
-use Rattle.peer_laws.proofs.Numbers.{int_same}
 use Rattle.delta_props.specs.Telling.{ToldValues, is_key, told_of, with_told, without_sync}
 use Rattle.telling_laws.specs.Telling.{told_all, told_none, HasOnce}
-use Rattle.telling_laws.proofs.Keys.{key_is, told_same, told_other, told_once, gone_other, gone_once}
+use Rattle.telling_laws.proofs.Keys.{told_same, told_other, told_once, gone_other, gone_once}
 
 -- keys of other peers, and of other synchronizers
 pub other_peer : (b c : ℤ) (id i : ℕ) → int_eq b c ≡ false → is_key b id (c, i) ≡ false

@@ -1,5 +1,5 @@
 -- What one peer is told of one synchronizer by the values that it was told last, and what counts as told then.
-use Rattle.std.proofs.Common.{◌≡◌, ℕ, suc, ◌+◌, ◌*◌, ℤ, Bool, true, false, cond, not, List, [], ◌∷◌, refl, sym, ap, ap₂, ◌∙◌, subst, map, filter, nat_eq, arith, Option, Some, None}
+use Rattle.std.proofs.Common.{◌≡◌, ℕ, suc, ◌+◌, ◌*◌, ℤ, Bool, true, false, cond, not, List, [], ◌∷◌, refl, sym, ap, ap₂, ◌∙◌, map, filter, nat_eq, arith, Option, Some, None}
 use Rattle.std.specs.Prelude.{◌/◌, ◌%◌, slice_get, option_map, if◌then◌else◌}
 use Rattle.std.specs.List.{AllByRecursion}
 use Rattle.std.proofs.lemmas.Bool.{ne_eqb, eq-eqb, true≢false}
@@ -11,8 +11,8 @@ use Rattle.gd_variant.proofs.Equal.{value_decides}
 use Rattle.scene_model.specs.Syncs.{Syncer, change_props}
 use Rattle.peer_model.specs.Heard.{Who, Heard}
 use Rattle.peer_model.specs.Values.{own_value}
-use Rattle.peer_model.specs.Updates.{Update, Tell, Replica, masked}
-use Rattle.peer_model.specs.Changes.{mask_of, differs, tell_for, tell_of, value_told}
+use Rattle.peer_model.specs.Updates.{Update, Tell, masked}
+use Rattle.peer_model.specs.Changes.{mask_of, tell_for, value_told}
 use Rattle.world_laws.proofs.Tellings.{masked_is}
 use Rattle.sight_laws.specs.Told.{told_to, told_values, tell_by}
 use Rattle.sight_laws.proofs.Frames.{tell_is_by}
@@ -139,19 +139,21 @@ module _ (who : Who) (es : List Heard) (b : ℤ) (y : Syncer) (t : ToldValues) (
   by_names [] e =
       let none : mask_now ≡ 0 = mask_is ∙ nothing_masked differs_now props e in
       let known = some_of (told_of b y.id t) (told_values who es b y) tells in
-      let result = ap (λ m. told_by b y.id own props m t) none in
-      (ap (λ (r : Option DeltaEntry × ToldValues). tells_in r.0) result,
-      ap (λ (r : Option DeltaEntry × ToldValues). told_of b y.id r.1) result ∙ known.1 ∙ ap Some (some_kept known.0 (map own props) (known.2 ∙ none_differ own told props e ∙ somes_of props)))
+      let result = ap (λ m. told_by b y.id own props m t) none in (
+        ap (λ (r : Option DeltaEntry × ToldValues). tells_in r.0) result,
+        ap (λ (r : Option DeltaEntry × ToldValues). told_of b y.id r.1) result ∙ known.1 ∙ ap Some (some_kept known.0 (map own props) (known.2 ∙ none_differ own told props e ∙ somes_of props)),
+      )
     where
       somes_of : (ps : List (List ℕ)) → map (λ p. Some (own_value who es y.node p)) ps ≡ map Some (map (own_value who es y.node) ps)
       somes_of [] = refl
       somes_of (p ∷ ps) = ap (λ xs. Some (own_value who es y.node p) ∷ xs) (somes_of ps)
   by_names (p ∷ ps) e =
-      let some = ap (λ m. nat_eq m 0) mask_is ∙ something_masked differs_now props p ps e in
-      (ap (λ c. tells_in (told_when c).0) some
-      ∙ ap₂ (λ m names. Tell (record { id = y.id; mask = m; values = map own names }) ∷ []) mask_is (ap (λ m. masked m props) mask_is ∙ masked_is differs_now props ∙ e),
-      ap (λ c. told_of b y.id (told_when c).1) some
-      ∙ told_same b y.id (map own props) t)
+      let some = ap (λ m. nat_eq m 0) mask_is ∙ something_masked differs_now props p ps e in (
+        ap (λ c. tells_in (told_when c).0) some
+            ∙ ap₂ (λ m names. Tell (record { id = y.id; mask = m; values = map own names }) ∷ []) mask_is (ap (λ m. masked m props) mask_is ∙ masked_is differs_now props ∙ e),
+        ap (λ c. told_of b y.id (told_when c).1) some
+            ∙ told_same b y.id (map own props) t,
+      )
 
   -- a Tell of what differs
   pub tells_one : tells_in (told_by b y.id own props mask_now t).0 ≡ tell_by who es y (told_values who es b y)
