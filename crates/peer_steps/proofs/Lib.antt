@@ -21,6 +21,7 @@ pub mod Packets
 pub mod LinkSteps
 pub mod OwnSteps
 pub mod SightSteps
+pub mod ViewIds
 pub mod Entries
 pub mod ReceivedSteps
 pub mod FrameSteps
