@@ -22,6 +22,7 @@ pub mod LinkSteps
 pub mod OwnSteps
 pub mod SightSteps
 pub mod ViewIds
+pub mod Meanings
 pub mod Entries
 pub mod ReceivedSteps
 pub mod FrameSteps
