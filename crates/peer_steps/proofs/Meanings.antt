@@ -36,7 +36,7 @@ num_comm i j = step (nat_eq i j) refl
 
 -- synchronizers of one row
 
-row_lacks : (path : List ℕ) (id k : ℕ) (ids : List ℕ) (ds : List SyncDef) → has_nat id ids ≡ false → list_any (λ (y : Syncer). nat_eq y.id id) (map (row_syncer path) (numbered k (zip ids ds))) ≡ false
+pub row_lacks : (path : List ℕ) (id k : ℕ) (ids : List ℕ) (ds : List SyncDef) → has_nat id ids ≡ false → list_any (λ (y : Syncer). nat_eq y.id id) (map (row_syncer path) (numbered k (zip ids ds))) ≡ false
 row_lacks path id k [] [] h = refl
 row_lacks path id k [] (d ∷ ds) h = refl
 row_lacks path id k (i ∷ ids) [] h = refl
@@ -152,3 +152,16 @@ high_meant s c j rows n d at is own = step (syncer_with (sync_id (suc j)) (fixed
     step : (o : Option Syncer) → syncer_with (sync_id (suc j)) (fixed_syncers s c) ≡ o → option_map aim (syncer_with (sync_id (suc j)) (replica_syncers s c rows)) ≡ Some (d.of, d)
     step None e = absurd (cc (sym (ap (option_map aim) e) ∙ here))
     step (Some y) e = ap (option_map aim) (find_here (λ (z : Syncer). nat_eq z.id (sync_id (suc j))) (fixed_syncers s c) (flat_map (live_syncers s) rows) y e) ∙ sym (ap (option_map aim) e) ∙ here
+
+-- what isn't found, and what is
+pub none_found : {X : Type 0} (p : X → Bool) (xs : List X) → find p xs ≡ None → list_any p xs ≡ false
+none_found p [] h = refl
+none_found p (x ∷ xs) h = step (p x) h (none_found p xs)
+  where
+    step : (b : Bool) → cond b (Some x) (find p xs) ≡ None → (find p xs ≡ None → list_any p xs ≡ false) → (b || list_any p xs) ≡ false
+    step true k more = absurd (cc k)
+    step false k more = more k
+
+pub none_find : {X : Type 0} (p : X → Bool) (xs : List X) → list_any p xs ≡ false → find p xs ≡ None
+none_find p [] h = refl
+none_find p (x ∷ xs) h = let parts = or_parts (p x) (list_any p xs) h in ap (λ b. cond b (Some x) (find p xs)) parts.0 ∙ none_find p xs parts.1
