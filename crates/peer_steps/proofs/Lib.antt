@@ -23,6 +23,7 @@ pub mod OwnSteps
 pub mod SightSteps
 pub mod ViewIds
 pub mod Meanings
+pub mod EntriesPut
 pub mod Entries
 pub mod ReceivedSteps
 pub mod FrameSteps
