@@ -128,7 +128,7 @@ rows_told c o t (n ∷ ns) = step (int_eq n.auth c) refl (is_row_of c n) refl (r
         ∙ ap (λ b. cond b (n ∷ rows_under c (map (told_node c o t) ns)) (rows_under c (map (told_node c o t) ns))) f
         ∙ more ∙ sym (ap (λ b. map (tell_node o t) (cond b (n ∷ rows_under c ns) (rows_under c ns))) f)
 
-same_syncers : (s : Scene) (o : Option Syncer) (t : DeltaEntry) (rows : List Live) → flat_map (live_syncers s) (map (tell_node o t) rows) ≡ flat_map (live_syncers s) rows
+pub same_syncers : (s : Scene) (o : Option Syncer) (t : DeltaEntry) (rows : List Live) → flat_map (live_syncers s) (map (tell_node o t) rows) ≡ flat_map (live_syncers s) rows
 same_syncers s o t [] = refl
 same_syncers s o t (n ∷ rows) = ap₂ (λ xs ys. xs ++ ys) (one o) (same_syncers s o t rows)
   where

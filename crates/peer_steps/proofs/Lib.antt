@@ -24,6 +24,8 @@ pub mod SightSteps
 pub mod ViewIds
 pub mod Meanings
 pub mod EntriesPut
+pub mod EntriesJudged
+pub mod EntriesStage
 pub mod Entries
 pub mod ReceivedSteps
 pub mod FrameSteps

@@ -15,6 +15,7 @@ use Rattle.peer_model.specs.Rows.{syncs_at}
 use Rattle.peer_model.specs.Updates.{live_syncers, replica_syncers}
 use Rattle.headless_tree.specs.Nodes.{is_row_of}
 use Rattle.headless_tree.specs.Numbers.{has_number}
+use Rattle.headless_tree.proofs.Places.{found_at, found_within, get_some}
 use Rattle.peer_laws.specs.Facts.{rows_under}
 use Rattle.peer_laws.proofs.Places.{find_here, find_past}
 use Rattle.peer_laws.proofs.Tests.{never}
@@ -165,3 +166,20 @@ none_found p (x ∷ xs) h = step (p x) h (none_found p xs)
 pub none_find : {X : Type 0} (p : X → Bool) (xs : List X) → list_any p xs ≡ false → find p xs ≡ None
 none_find p [] h = refl
 none_find p (x ∷ xs) h = let parts = or_parts (p x) (list_any p xs) h in ap (λ b. cond b (Some x) (find p xs)) parts.0 ∙ none_find p xs parts.1
+
+-- the node that is found by a number has it
+pub found_number : (c : ℤ) (id : ℕ) (nodes : List Live) (n : Live) → find (has_number c id) nodes ≡ Some n → has_number c id n ≡ true
+found_number c id [] n h = absurd (cc h)
+found_number c id (m ∷ ms) n h = step (has_number c id m) refl h (found_number c id ms n)
+  where
+    step : (b : Bool) → has_number c id m ≡ b → cond b (Some m) (find (has_number c id) ms) ≡ Some n → (find (has_number c id) ms ≡ Some n → has_number c id n ≡ true) → has_number c id n ≡ true
+    step true e k more = let same : m ≡ n = cc in ap (has_number c id) (sym same) ∙ e
+    step false e k more = more k
+
+-- an id that stands at a place is among the ids
+pub placed_has : (id : ℕ) (ids : List ℕ) (j : ℕ) → position (nat_eq id) ids ≡ Some j → has_nat id ids ≡ true
+placed_has id ids j g = any (has_nat id ids) refl
+  where
+    any : (b : Bool) → has_nat id ids ≡ b → has_nat id ids ≡ true
+    any true l = l
+    any false l = absurd (true≢false (sym (get_some ids j (found_within (nat_eq id) ids j g)) ∙ ap is_some (found_at (nat_eq id) ids j g ∙ none_find (nat_eq id) ids l)))

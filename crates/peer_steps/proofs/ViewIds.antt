@@ -74,7 +74,7 @@ kept_unshared p (y ∷ ys) h = step (p y) (kept_unshared p ys h.1)
     step false more = more
 
 -- changes that leave the numbers
-map_unshared : (f : Live → Live) → ((n : Live) → numbers (f n) ≡ numbers n) → (ys : List Live) → Unshared ys → Unshared (map f ys)
+pub map_unshared : (f : Live → Live) → ((n : Live) → numbers (f n) ≡ numbers n) → (ys : List Live) → Unshared ys → Unshared (map f ys)
 map_unshared f same [] h = tt
 map_unshared f same (y ∷ ys) h = (each ys h.0, map_unshared f same ys h.1)
   where
@@ -82,7 +82,7 @@ map_unshared f same (y ∷ ys) h = (each ys h.0, map_unshared f same ys h.1)
     each [] k = tt
     each (z ∷ zs) k = ((λ i e. ap (has_nat i) (same z) ∙ k.0 i (sym (ap (has_nat i) (same y)) ∙ e)), each zs k.1)
 
-tell_numbers : (o : Option Syncer) (t : DeltaEntry) (n : Live) → numbers (tell_node o t n) ≡ numbers n
+pub tell_numbers : (o : Option Syncer) (t : DeltaEntry) (n : Live) → numbers (tell_node o t n) ≡ numbers n
 tell_numbers None t n = refl
 tell_numbers (Some y) t n = refl
 
