@@ -1,15 +1,16 @@
 -- Received entries one after the other: each leaves what the next needs.
 use Rattle.std.proofs.Common.{◌≡◌, ℕ, zero, suc, ◌+◌, ◌-◌, ◌≤◌, ◌<◌, ℤ, Bool, true, false, cond, not, ◌&&◌, ◌||◌, List, [], ◌∷◌, ◌++◌, refl, sym, ap, ap₂, ◌∙◌, subst, map, filter, nat_eq, nat_le, arith, is_some, Option, Some, None}
-use Rattle.std.specs.Prelude.{find, flat_map, if◌then◌else◌, option_and_then, option_map, position, slice_get, zip, Result, Ok, Err}
+use Rattle.std.specs.Prelude.{find, flat_map, if◌then◌else◌, is_none, option_and_then, option_map, position, slice_get, zip, Result, Ok, Err}
 use Rattle.std.specs.List.{slice_set, AllByRecursion}
 use Rattle.std.specs.Ordering.{int_eq}
 use Rattle.std.proofs.lemmas.Bool.{and_parts, and_from, leb-false, leb-true, true≢false}
-use Rattle.gd_variant.specs.Words.{first_of, has_nat, numbered, text_eq}
+use Rattle.gd_variant.specs.Words.{first_of, has_nat, some_is, text_eq, when}
 use Rattle.gd_variant.specs.declared.message.DeltaEntry.{DeltaEntry}
 use Rattle.scene_model.specs.declared.scene.Scene.{Scene}
 use Rattle.scene_model.specs.declared.scene.Node.{Node}
 use Rattle.scene_model.specs.declared.scene.SyncDef.{SyncDef}
 use Rattle.scene_model.specs.declared.outcome.Fault.{Fault}
+use Rattle.scene_model.specs.declared.outcome.Fault.TheVariants as fault
 use Rattle.scene_model.specs.Lookup.{fixed_node, fixed_node_at, prop_names, sync_of}
 use Rattle.scene_model.specs.Syncs.{Syncer, change_props, fixed_bit, row_syncers, sync_id, syncer_with}
 use Rattle.scene_model.specs.Valid.{IsValidScene, auth_wrong, has_twice, no_target, node_no_prop}
@@ -18,7 +19,7 @@ use Rattle.scene_model.proofs.TextLaws.{text_eq-sym, text_eq-true}
 use Rattle.peer_model.specs.Heard.{Who}
 use Rattle.peer_model.specs.Rows.{syncs_at}
 use Rattle.peer_model.specs.Updates.{Live, assign_all, live_syncers, masked, replica_syncers, tell_node}
-use Rattle.peer_model.specs.Faults.{delta_fault, is_fixed_id}
+use Rattle.peer_model.specs.Faults.{bad_mask, delta_fault, entry_id_faults, fixed_sync_node, is_fixed_id, wrong_delta}
 use Rattle.headless_tree.specs.Nodes.{TreeOf, is_row_of, is_spawned}
 use Rattle.headless_tree.specs.Numbers.{has_number}
 use Rattle.headless_tree.proofs.Numbered.{all_at}
@@ -197,3 +198,78 @@ module _ (who : Who) (v : IsValidScene who.scene) (c : ℤ) (nodes : List Live) 
           let both : aim y ≡ aimed x.node.path x.def = cc in
           ap (λ (d : SyncDef). slice_set nodes x.place (record x.node { values = assign_all (zip (masked t.mask (change_props d)) t.values) x.node.values })) (sym (ap (λ (a : List ℕ × SyncDef). a.1) both))
           ∙ told_at_place c y t x.place nodes x.node stage.apart x.there x.own (ap (λ (a : List ℕ × SyncDef). a.0) both)
+
+-- one entry later
+
+told_auth : (c : ℤ) (o : Option Syncer) (t : DeltaEntry) (n : Live) → (told_node c o t n).auth ≡ n.auth
+told_auth c o t n = step (int_eq n.auth c) o
+  where
+    step : (b : Bool) (p : Option Syncer) → (cond b (tell_node p t n) n).auth ≡ n.auth
+    step true None = refl
+    step true (Some y) = refl
+    step false p = refl
+
+node_names : (c : ℤ) (o : Option Syncer) (t : DeltaEntry) (n : Live) → prop_names (told_node c o t n).values ≡ prop_names n.values
+node_names c o t n = step (int_eq n.auth c)
+  where
+    step : (b : Bool) → prop_names (cond b (tell_node o t n) n).values ≡ prop_names n.values
+    step true = told_names o t n
+    step false = refl
+
+mapped_get : (f : Live → Live) (ns : List Live) (i : ℕ) (n : Live) → slice_get ns i ≡ Some n → slice_get (map f ns) i ≡ Some (f n)
+mapped_get f [] i n h = absurd (cc h)
+mapped_get f (m ∷ ns) zero n h = let same : m ≡ n = cc in ap (λ z. Some (f z)) same
+mapped_get f (m ∷ ns) (suc i) n h = mapped_get f ns i n h
+
+mapped_paths : (f : Live → Live) → ((n : Live) → (f n).path ≡ n.path) → (ns : List Live) → paths_of (map f ns) ≡ paths_of ns
+mapped_paths f same [] = refl
+mapped_paths f same (n ∷ ns) = ap₂ (λ p ps. p ∷ ps) (same n) (mapped_paths f same ns)
+
+pub stage_after : (s : Scene) (c : ℤ) (o : Option Syncer) (t : DeltaEntry) (nodes : List Live) → Stage s c nodes → Stage s c (map (told_node c o t) nodes)
+stage_after s c o t nodes stage = record {
+  apart = ap has_twice (mapped_paths (told_node c o t) (node_path c o t) nodes) ∙ stage.apart;
+  unshared = subst Unshared (sym (rows_told c o t nodes)) (map_unshared (tell_node o t) (tell_numbers o t) (rows_under c nodes) stage.unshared);
+  stands = λ i m there.
+      let at = stage.stands i m there in
+      (told_node c o t at.0, mapped_get (told_node c o t) nodes i at.0 at.1, node_path c o t at.0 ∙ at.2, told_auth c o t at.0 ∙ at.3);
+  names = each nodes stage.names;
+}
+  where
+    each : (ns : List Live) → AllByRecursion (λ (n : Live). int_eq n.auth c ≡ true → has_twice (prop_names n.values) ≡ false) ns → AllByRecursion (λ (n : Live). int_eq n.auth c ≡ true → has_twice (prop_names n.values) ≡ false) (map (told_node c o t) ns)
+    each [] h = tt
+    each (n ∷ ns) h = ((λ own. ap has_twice (node_names c o t n) ∙ h.0 (sym (ap (λ a. int_eq a c) (told_auth c o t n)) ∙ own)), each ns h.1)
+
+-- faults beside rows that were told something
+
+faults_stay : (who : Who) (c : ℤ) (o : Option Syncer) (t : DeltaEntry) (rows : List Live) (ts : List DeltaEntry) → map (delta_fault who c (map (tell_node o t) rows)) ts ≡ map (delta_fault who c rows) ts
+faults_stay who c o t rows [] = refl
+faults_stay who c o t rows (u ∷ ts) = ap₂ (λ x xs. x ∷ xs) (ap (fault_by u) (same_syncers who.scene o t rows)) (faults_stay who c o t rows ts)
+  where
+    -- by the synchronizers of the rows
+    fault_by : DeltaEntry → List Syncer → Option Fault
+    fault_by e ys = first_of (entry_id_faults who c e.id
+        ++ when (is_none (meant_among e.id ys)) (fault.NoSync e.id)
+        ∷ when (some_is (bad_mask e.mask) (meant_among e.id ys)) (fault.BadMask e.mask)
+        ∷ when (some_is (wrong_delta e) (meant_among e.id ys)) fault.WrongValues
+        ∷ [])
+      where
+        meant_among : ℕ → List Syncer → Option SyncDef
+        meant_among id zs = if is_fixed_id id then option_and_then sync_of (fixed_sync_node who id) else option_map (λ (y : Syncer). y.def) (syncer_with id zs)
+
+-- all entries
+
+none_first : (x : Option Fault) (xs : List (Option Fault)) → first_of (x ∷ xs) ≡ None → (x ≡ None) × (first_of xs ≡ None)
+none_first None xs h = (refl, h)
+none_first (Some f) xs h = absurd (cc h)
+
+pub all_entries : (who : Who) → IsValidScene who.scene → (c : ℤ) (ts : List DeltaEntry) (nodes : List Live) → Stage who.scene c nodes → first_of (map (delta_fault who c (rows_under c nodes)) ts) ≡ None
+    → (entries_put c ts (record { scene = who.scene; nodes = nodes })).nodes ≡ nodes_told who.scene c ts (rows_under c nodes) nodes
+all_entries who v c [] nodes stage free = refl
+all_entries who v c (t ∷ ts) nodes stage free =
+    let parts = none_first (delta_fault who c (rows_under c nodes) t) (map (delta_fault who c (rows_under c nodes)) ts) free in
+    let o = meant_by who.scene c t (rows_under c nodes) in
+    let later = map (told_node c o t) nodes in
+    let rows = rows_told c o t nodes in
+    ap (λ ns. (entries_put c ts (record { scene = who.scene; nodes = ns })).nodes) (one_put who v c nodes stage t (entry_judged_is who c nodes t stage.unshared ∙ parts.0))
+    ∙ all_entries who v c ts later (stage_after who.scene c o t nodes stage) (ap (λ rs. first_of (map (delta_fault who c rs) ts)) rows ∙ ap first_of (faults_stay who c o t (rows_under c nodes) ts) ∙ parts.1)
+    ∙ ap (λ rs. nodes_told who.scene c ts rs later) rows
