@@ -98,7 +98,7 @@ own_row_at who es v all f path n there own =
 
 -- values
 
-own_value_in : (who : Who) (es : List Heard) (path p : List ℕ) (props : List Prop) → has_prop p props ≡ true → value_in (own_values who es path props) p ≡ Some (own_value who es path p)
+pub own_value_in : (who : Who) (es : List Heard) (path p : List ℕ) (props : List Prop) → has_prop p props ≡ true → value_in (own_values who es path props) p ≡ Some (own_value who es path p)
 own_value_in who es path p [] h = absurd (cc h)
 own_value_in who es path p (q ∷ qs) h = step (text_eq q.name p) refl (sym (ap (λ b. b || has_prop p qs) (text_eq-sym p q.name)) ∙ h) (λ e. own_value_in who es path p qs e)
   where

@@ -29,7 +29,7 @@ first_is : (m n : Node) (rest : Option Node) → m ≡ n → cond (text_eq m.pat
 first_is m n rest same = ap (λ (x : Node). cond (text_eq m.path x.path) (Some m) rest) (sym same) ∙ ap (λ b. cond b (Some m) rest) (text_eq-same m.path) ∙ ap Some same
 
 -- a node is found by its path
-node_found : (nodes : List Node) (i : ℕ) (n : Node) → has_twice (map (λ (x : Node). x.path) nodes) ≡ false → slice_get nodes i ≡ Some n → find (λ (x : Node). text_eq x.path n.path) nodes ≡ Some n
+pub node_found : (nodes : List Node) (i : ℕ) (n : Node) → has_twice (map (λ (x : Node). x.path) nodes) ≡ false → slice_get nodes i ≡ Some n → find (λ (x : Node). text_eq x.path n.path) nodes ≡ Some n
 node_found [] i n h e = absurd (cc e)
 node_found (m ∷ nodes) zero n h e = first_is m n (find (λ (x : Node). text_eq x.path n.path) nodes) cc
 node_found (m ∷ nodes) (suc i) n h e =

@@ -1,6 +1,6 @@
 -- What an accepted event puts on one link: the packets of what it adds for the peer at the other end.
 use Rattle.std.proofs.Common.{◌≡◌, ℤ, Bool, true, false, cond, ◌||◌, List, [], ◌∷◌, ◌++◌, refl, sym, ap, ap₂, ◌∙◌, map, filter, Ok}
-use Rattle.std.specs.Prelude.{flat_map, int_lt, if◌then◌else◌}
+use Rattle.std.specs.Prelude.{flat_map, int_lt}
 use Rattle.std.specs.List.{list_all}
 use Rattle.std.specs.Ordering.{int_eq}
 use Rattle.std.proofs.lemmas.List.Elements.{filter-append}

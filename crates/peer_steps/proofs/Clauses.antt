@@ -6,7 +6,7 @@ use Rattle.gd_variant.specs.declared.message.Bad.{Bad}
 use Rattle.scene_model.specs.declared.event.Event.{Event}
 use Rattle.scene_model.specs.declared.event.Event.TheVariants.{Op, Up, Down, Received}
 use Rattle.scene_model.specs.declared.event.Op.{Op as Operation}
-use Rattle.scene_model.specs.declared.event.Op.TheVariants.{Spawn, Custom, Despawn, Set, Public, For, Filter}
+use Rattle.scene_model.specs.declared.event.Op.TheVariants.{Spawn, Custom, Despawn, Set, Public, For, Filter, Frame}
 use Rattle.scene_model.specs.declared.outcome.Outcome.TheVariants.{Refused}
 use Rattle.scene_model.specs.declared.outcome.Refusal.TheVariants.{BadPeer}
 use Rattle.scene_model.specs.declared.outcome.Fault.{Fault as FaultOf}
@@ -19,11 +19,12 @@ use Rattle.peer_model.specs.Bytes.{PacketForm}
 use Rattle.peer_laws.proofs.TreeStart.{tree_start}
 use Rattle.sight_laws.specs.Sights.{Sights}
 use Rattle.sight_laws.proofs.Stepping.{sights_at_first}
+use Rattle.telling_laws.proofs.Nexts.{none_told}
 use Rattle.peer_steps.specs.Kept.{Kept, new_peer}
 use Rattle.peer_steps.specs.Stands.{HasParts, StandsFor, is_answered, built_answer, is_built_event}
 use Rattle.peer_steps.specs.Peers.{peer_comes}
 use Rattle.peer_steps.specs.Judged.{lacks_server, link_judged}
-use Rattle.peer_steps.specs.Steps.{Taken, taken, unchanged, up_taken, op_taken, message_taken, linked_taken, read_taken, RowNews, appears, disappears, row_read, is_done}
+use Rattle.peer_steps.specs.Steps.{Taken, taken, unchanged, up_taken, op_taken, message_taken, linked_taken, read_taken, RowNews, appears, disappears, changes, row_read, is_done}
 use Rattle.peer_steps.proofs.Whole.{taken_right, kept_still}
 
 -- a new peer stands for no events
@@ -40,6 +41,7 @@ start_stands form s id valid = record {
   rows = refl;
   seen = refl;
   fixed = ap (λ (v : Sights). v.fixed) (sym (sights_at_first (record { id = id; scene = s })));
+  told = none_told (record { id = id; scene = s });
 }
 
 -- a step that made this outcome and keeps this
@@ -67,6 +69,7 @@ message_rest : (k : Kept) (from : ℤ) (x : Option RowNews) → rest (message_ta
 message_rest k from None = refl
 message_rest k from (Some (appears m)) = refl
 message_rest k from (Some (disappears net)) = refl
+message_rest k from (Some (changes ts)) = refl
 
 linked_rest : (k : Kept) (from : ℤ) (m : Message) (o : Option FaultOf) → rest (linked_taken k from m o).kept ≡ rest k
 linked_rest k from m (Some f) = refl
@@ -88,6 +91,7 @@ op_rest form k (Public path n on) = refl
 op_rest form k (For path n b on) = refl
 op_rest form k (Filter path n bs) = refl
 op_rest form k (Set path prop value) = refl
+op_rest form k Frame = refl
 op_rest form k op = refl
 
 same_rest : (form : PacketForm) (k : Kept) (e : Event) → rest (taken form k e).kept ≡ rest k

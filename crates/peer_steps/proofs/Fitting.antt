@@ -154,10 +154,14 @@ all_change {X} p test f k (x ∷ xs) h = step (test x) (all_change p test f k xs
 abbrev with_prop : List ℕ → Variant → Live → Live
 with_prop prop value n = record n { values = change_first (λ (p : Prop). text_eq p.name prop) (with_value value) n.values }
 
+-- a node with another value that is right
+pub right_changed : (prop : List ℕ) (value : Variant) (n : Live) → is_right_value value ≡ true → has_right_values n ≡ true → has_right_values (record n { values = change_first (λ (p : Prop). text_eq p.name prop) (with_value value) n.values }) ≡ true
+right_changed prop value n right h = all_change (λ (p : Prop). is_right_value p.value) (λ (p : Prop). text_eq p.name prop) (with_value value) (λ p k. right) n.values h
+
 fits_assigned : (me : ℤ) (path prop : List ℕ) (value : Variant) (t : TreeOf) (k : Track) → is_right_value value ≡ true → Fits me t k → Fits me (record t { nodes = assigned path prop value t.nodes }) k
 fits_assigned me path prop value t k right f = record {
   valid = f.valid;
-  values = all_change has_right_values (is_at path) (with_prop prop value) (λ n h. all_change (λ (p : Prop). is_right_value p.value) (λ (p : Prop). text_eq p.name prop) (with_value value) (λ p k. right) n.values h) t.nodes f.values;
+  values = all_change has_right_values (is_at path) (with_prop prop value) (λ n h. right_changed prop value n right h) t.nodes f.values;
   rows = f.rows;
   before = all_change (is_before me k.next) (is_at path) (with_prop prop value) (λ n h. h) t.nodes f.before;
 }

@@ -1,5 +1,5 @@
 -- A link that comes up or goes down: what is answered is what the definitions give, and what is kept then stands for the events with it.
-use Rattle.std.proofs.Common.{◌≡◌, ℤ, Bool, true, false, not, ◌||◌, List, [], ◌∷◌, ◌++◌, refl, sym, ap, ap₂, ◌∙◌, map, filter, Option, Some, None}
+use Rattle.std.proofs.Common.{◌≡◌, ℤ, Bool, true, false, not, ◌||◌, List, [], ◌∷◌, ◌++◌, refl, sym, ap, ap₂, ◌∙◌, subst, map, filter, Option, Some, None}
 use Rattle.std.specs.Prelude.{if◌then◌else◌, int_lt}
 use Rattle.std.specs.Ordering.{int_eq}
 use Rattle.std.proofs.lemmas.Grind.{reverse_onto}
@@ -13,6 +13,7 @@ use Rattle.peer_model.specs.Heard.{Heard, comes, goes, is_server, server}
 use Rattle.peer_model.specs.Peers.{was_up, peers_come}
 use Rattle.peer_model.specs.Rows.{own_rows}
 use Rattle.peer_model.specs.View.{tree_of}
+use Rattle.peer_model.specs.Visible.{sees}
 use Rattle.peer_model.specs.Refusals.{refusal_of}
 use Rattle.peer_model.specs.Bytes.{PacketForm, accepted_events}
 use Rattle.headless_tree.specs.Nodes.{without_rows}
@@ -36,7 +37,11 @@ use Rattle.peer_steps.specs.Stands.{StandsFor}
 use Rattle.peer_steps.specs.Steps.{done_with, unchanged, up_taken, link_taken, down_taken, shows_to, row_packet, sent_to}
 use Rattle.peer_steps.proofs.Judging.{up_judged_is, down_judged_is, sights_are}
 use Rattle.peer_steps.proofs.Accepted.{Right, refused_right, done_sends, done_right}
-use Rattle.peer_steps.proofs.Packets.{all_shown}
+use Rattle.delta_props.specs.Telling.{without_peer as forget}
+use Rattle.telling_laws.specs.Telling.{IsTold}
+use Rattle.peer_steps.specs.Tellings.{told_up}
+use Rattle.peer_steps.proofs.ToldParts.{up_told, down_told}
+use Rattle.peer_steps.proofs.Packets.{all_shown, seen_is}
 
 -- a link that is accepted
 come_done : (form : PacketForm) (k : Kept) (es : List Event) (b : ℤ) → StandsFor form k es → lacks_server k.peers.me b ≡ false → comes_judged k.peers b ≡ None → Right form k es (Up b) (up_taken form k b (None, with_peer b k.peers))
@@ -57,13 +62,14 @@ come_done form k es b h linked free = done_right form k j es (Up b) (done_with (
       rows = h.rows ∙ sym (ap (map (kept_row k.who)) (rows_come k.who gs b));
       seen = ap (λ (v : Sights). (with_peer_up b v).rows) (sights_are k gs h) ∙ ap (λ (v : Sights). v.rows) (sym (sights_come k.who gs (comes b) b done refl));
       fixed = h.fixed ∙ ap (λ (v : Sights). v.fixed) (sym (sights_come k.who gs (comes b) b done refl));
+      told = subst (IsTold k.who (comes b ∷ gs)) (sym told_is) (up_told k.who gs (comes b) b k.told h.valid done (facts k.who (comes b ∷ gs) h.valid (fresh, h.accepted)) refl h.told);
     })
   where
     gs : List Heard
     gs = accepted_events form k.who es
 
     j : Kept
-    j = record k { peers = with_peer b k.peers; track = track_up b k.track }
+    j = record k { peers = with_peer b k.peers; track = track_up b k.track; told = told_up k.who k.nodes b (seen_by b k.track.rows k.track.sights.rows) k.told }
 
     no_refusal : refusal_of k.who gs (comes b) ≡ None
     no_refusal = sym (up_judged_is k gs h b) ∙ ap₂ (λ c o. if c then Some BadPeer else o) linked free
@@ -76,6 +82,9 @@ come_done form k es b h linked free = done_right form k j es (Up b) (done_with (
 
     done : AllDone k.who (comes b ∷ gs)
     done = built_done k.who (comes b ∷ gs) (fresh, h.accepted)
+
+    told_is : told_up k.who k.nodes b (seen_by b k.track.rows k.track.sights.rows) k.told ≡ told_up k.who (tree_of k.who (comes b ∷ gs)) b (map (kept_row k.who) (filter (sees k.who gs b) (own_rows k.who gs))) k.told
+    told_is = ap₂ (λ ns rs. told_up k.who ns b rs k.told) (h.nodes ∙ sym (tree_come k.who gs known b fresh)) (ap₂ (seen_by b) h.rows h.seen ∙ seen_is k.who gs b (own_rows k.who gs))
 
     new : (int_eq b k.who.id ≡ false) × (was_up gs b ≡ false) × ((is_server k.who || int_eq b server) ≡ true)
     new = come_is_new k.who gs b fresh
@@ -108,13 +117,14 @@ go_done form k es b h was_up = done_right form k j es (Down b) (done_with []) re
       rows = h.rows ∙ sym (ap (map (kept_row k.who)) (rows_go k.who gs b));
       seen = ap (λ (v : Sights). (with_peer_down b v).rows) (sights_are k gs h) ∙ ap (λ (v : Sights). v.rows) (sym (sights_go k.who gs (goes b) b refl));
       fixed = h.fixed ∙ ap (λ (v : Sights). v.fixed) (sym (sights_go k.who gs (goes b) b refl));
+      told = down_told k.who gs (goes b) b k.told h.valid done refl h.told;
     })
   where
     gs : List Heard
     gs = accepted_events form k.who es
 
     j : Kept
-    j = record k { peers = without_peer b k.peers; nodes = without_rows b k.nodes; track = track_down b k.track }
+    j = record k { peers = without_peer b k.peers; nodes = without_rows b k.nodes; track = track_down b k.track; told = forget b k.told }
 
     no_refusal : refusal_of k.who gs (goes b) ≡ None
     no_refusal = sym (down_judged_is k gs h b) ∙ ap (λ c. when (not c) NoPeer) was_up

@@ -3,7 +3,8 @@ use Rattle.std.proofs.Common.{◌≡◌, ℕ, ◌+◌, true, not, List, [], ◌�
 use Rattle.std.specs.List.{Contains}
 use Rattle.std.proofs.lemmas.List.{map-append}
 use Rattle.std.proofs.lemmas.List.Elements.{Contains-push}
-use Rattle.gd_variant.specs.Words.{text_eq, put_by}
+use Rattle.gd_variant.specs.Words.{or_else, text_eq, put_by}
+use Rattle.std.specs.Prelude.{option_map}
 use Rattle.gd_variant.specs.declared.value.Variant.{Variant}
 use Rattle.gd_variant.specs.declared.message.Plain.TheVariants as packet
 use Rattle.scene_model.specs.declared.event.SpawnOp.{SpawnOp}
@@ -49,10 +50,14 @@ use Rattle.peer_steps.specs.Spawns.{spawn_judged}
 use Rattle.peer_steps.specs.Track.{spawned_by, despawned_by, number_at, shown_of}
 use Rattle.peer_steps.specs.Judged.{set_judged, despawn_judged}
 use Rattle.peer_steps.specs.Stands.{StandsFor}
-use Rattle.peer_steps.specs.Steps.{done_with, set_taken, row_made, with_spawned, spawn_taken, despawn_taken, shows_of, row_packet, sent_to}
+use Rattle.peer_steps.specs.Steps.{done_with, set_taken, row_made, with_spawned, spawn_taken, spawn_told, despawn_taken, shows_of, row_packet, sent_to}
 use Rattle.peer_steps.proofs.Judging.{spawn_judged_is, set_judged_is, despawn_judged_is, sights_are}
 use Rattle.peer_steps.proofs.Accepted.{Right, refused_right, done_sends, done_right}
-use Rattle.peer_steps.proofs.OwnRows.{IsOwnAt, own_at, number_is, shown_is}
+use Rattle.delta_props.specs.Telling.{ToldValues}
+use Rattle.telling_laws.specs.Telling.{IsTold}
+use Rattle.peer_steps.specs.Tellings.{hidden_from_all, ids_with, shown_to_all}
+use Rattle.peer_steps.proofs.ToldParts.{still_told, spawn_told_is, despawn_told_is}
+use Rattle.peer_steps.proofs.OwnRows.{IsOwnAt, own_at, kept_found, number_is, shown_is}
 use Rattle.peer_steps.proofs.Packets.{all_direct, is_direct, sent_to_each, row_packet_is}
 
 -- an assignment
@@ -72,6 +77,7 @@ set_done form k es path prop value h free = done_right form k j es (Op (Set path
       rows = h.rows ∙ sym (ap (map (kept_row k.who)) (rows_set k.who gs path prop value));
       seen = h.seen ∙ ap (λ (v : Sights). v.rows) (sym (sights_stay k.who gs e refl refl refl));
       fixed = h.fixed ∙ ap (λ (v : Sights). v.fixed) (sym (sights_stay k.who gs e refl refl refl));
+      told = still_told k.who gs e k.told h.valid (built_done k.who (e ∷ gs) (fresh, h.accepted)) refl refl refl refl h.told;
     })
   where
     e : Heard
@@ -128,7 +134,7 @@ module _ (form : PacketForm) (k : Kept) (es : List Event) (op : Operation) (o : 
   spawned = with_spawned k (spawned_by k.who.id k.peers.up o k.track (kept_tree k) None)
 
   spawn_done : spawn_judged k.who k.nodes k.track.rows k.track.next o ≡ None → Right form k es (Op op) (spawn_taken form k o (spawned_by k.who.id k.peers.up o k.track (kept_tree k) None))
-  spawn_done free = done_right form k spawned es (Op op) (done_with (shows_of form spawned (row_made k o))) refl refl no_refusal refl
+  spawn_done free = done_right form k (record spawned { told = spawn_told spawned (row_made k o) None }) es (Op op) (done_with (shows_of form spawned (row_made k o))) refl refl no_refusal refl
       (ap₂ (λ ns n. done_with (shows_among ns n spawned.track.sights)) nodes_now h.next
       ∙ ap (λ v. done_with (shows_among (tree_of k.who now) (next_number k.who gs) v)) sights_now
       ∙ ap done_with
@@ -148,6 +154,7 @@ module _ (form : PacketForm) (k : Kept) (es : List Event) (op : Operation) (o : 
             ∙ sym (ap (map (kept_row k.who)) made.rows ∙ map-append (kept_row k.who) (own_rows k.who gs) (row ∷ []));
         seen = ap (λ (v : Sights). v.rows) sights_now;
         fixed = ap (λ (v : Sights). v.fixed) sights_now;
+        told = subst (IsTold k.who now) (sym told_now) (spawn_told_is k.who gs (does op) o k.told h.valid done (facts k.who now h.valid (fresh, h.accepted)) s.is h.told);
       })
     where
       defs : List SyncDef
@@ -176,6 +183,15 @@ module _ (form : PacketForm) (k : Kept) (es : List Event) (op : Operation) (o : 
           ap₂ (λ us n. with_row us n defs k.track.sights) h.up h.next
           ∙ ap (with_row (peers_up gs) (next_number k.who gs) defs) (sights_are k gs h)
           ∙ sym (sights_spawn k.who gs (does op) o done s.is)
+
+      told_among : List Live → ℕ → Sights → ToldValues
+      told_among ns n v = shown_to_all k.who.scene ns (kept_row k.who (row_of_spawn k.who n o)) (shown_of n v) k.told
+
+      told_now : spawn_told spawned (row_made k o) None ≡ shown_to_all k.who.scene (tree_of k.who now) (kept_row k.who row) (row_sight k.who now row).shown k.told
+      told_now =
+          ap₂ (λ ns n. told_among ns n spawned.track.sights) nodes_now h.next
+          ∙ ap (told_among (tree_of k.who now) (next_number k.who gs)) sights_now
+          ∙ ap (λ bs. shown_to_all k.who.scene (tree_of k.who now) (kept_row k.who row) bs k.told) (shown_is k.who now row has)
 
   spawn_by : (r : Option Refusal) → spawn_judged k.who k.nodes k.track.rows k.track.next o ≡ r → Right form k es (Op op) (spawn_taken form k o (spawned_by k.who.id k.peers.up o k.track (kept_tree k) r))
   spawn_by (Some r) judged = refused_right form k es (Op op) r h refl (s.why ∙ sym (spawn_judged_is k gs h o) ∙ judged)
@@ -222,6 +238,7 @@ module _ (form : PacketForm) (k : Kept) (es : List Event) (path : List ℕ) (h :
             ∙ sym (rows_despawn k.who gs path));
         seen = ap (λ (v : Sights). v.rows) sights_now;
         fixed = ap (λ (v : Sights). v.fixed) sights_now;
+        told = subst (λ ids. IsTold k.who (does (Despawn path) ∷ gs) (hidden_from_all ids (shown_of (number_at k.nodes path) k.track.sights) k.told)) (sym ids_are) (despawn_told_is k.who gs path own.row (shown_of (number_at k.nodes path) k.track.sights) k.told h.valid done own.has own.path_is h.told);
       })
     where
       gs : List Heard
@@ -253,6 +270,9 @@ module _ (form : PacketForm) (k : Kept) (es : List Event) (path : List ℕ) (h :
 
       num_is : number_at k.nodes path ≡ own.row.num
       num_is = ap (λ ns. number_at ns path) h.nodes ∙ number_is k.who gs path own
+
+      ids_are : ids_with (number_at k.nodes path) k.track.rows ≡ own.row.ids
+      ids_are = ap₂ ids_with num_is h.rows ∙ ap (λ o. or_else (option_map (λ (r : SpawnedRow). r.ids) o) []) (kept_found k.who gs own.row own.has)
 
       sights_now : without_row (number_at k.nodes path) k.track.sights ≡ all_sights k.who (does (Despawn path) ∷ gs)
       sights_now = ap₂ without_row num_is (sights_are k gs h) ∙ sym (sights_despawn k.who gs path own.row done.1 own.has own.path_is)

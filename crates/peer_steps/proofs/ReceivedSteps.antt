@@ -2,6 +2,7 @@
 use Rattle.std.proofs.Common.{◌≡◌, ℕ, ℤ, Bool, true, false, not, ◌&&◌, List, [], ◌∷◌, refl, sym, ap, ap₂, ◌∙◌, subst, map, reverse, Option, Some, None, Ok}
 use Rattle.std.specs.Prelude.{if◌then◌else◌, is_none, Result, Err}
 use Rattle.gd_variant.specs.Words.{put_by, first_some}
+use Rattle.gd_variant.specs.declared.message.DeltaEntry.{DeltaEntry}
 use Rattle.gd_variant.specs.declared.message.Plain.{Plain}
 use Rattle.gd_variant.specs.declared.message.Plain.TheVariants as packet
 use Rattle.gd_variant.specs.declared.message.Message.{Message}
@@ -27,6 +28,8 @@ use Rattle.peer_laws.specs.Facts.{without_number, rows_under}
 use Rattle.peer_laws.proofs.FactsOf.{facts}
 use Rattle.peer_laws.proofs.Rows.{rows_receive, next_receive}
 use Rattle.peer_laws.proofs.TreeReceives.{tree_receive, tree_hide}
+use Rattle.peer_laws.proofs.TreeTells.{tree_tell}
+use Rattle.peer_steps.proofs.Entries.{entries_judged_is, entries_put_are}
 use Rattle.peer_laws.proofs.Ups.{not_this}
 use Rattle.peer_laws.proofs.Views.{got, show_plain, linked_up, view_rows_under}
 use Rattle.world_laws.proofs.Law.{built_done}
@@ -40,7 +43,9 @@ use Rattle.peer_steps.specs.Spawns.{shown_judged}
 use Rattle.peer_steps.specs.Track.{shown_by, hidden_by}
 use Rattle.peer_steps.specs.Judged.{link_judged, hidden_judged}
 use Rattle.peer_steps.specs.Stands.{HasParts, StandsFor, is_answered}
-use Rattle.peer_steps.specs.Steps.{RowNews, appears, disappears, done_with, shown_taken, message_taken, linked_taken, read_taken, row_read}
+use Rattle.peer_steps.specs.Steps.{RowNews, appears, disappears, changes, done_with, shown_taken, message_taken, linked_taken, read_taken, row_read, entries_by, entries_judged, entries_put}
+use Rattle.telling_laws.specs.Telling.{IsTold}
+use Rattle.peer_steps.proofs.ToldParts.{still_told}
 use Rattle.peer_steps.proofs.Judging.{link_judged_is, shown_judged_is, hidden_judged_is}
 use Rattle.peer_steps.proofs.Accepted.{Right, fault_right, unbuilt_right, done_sends, done_right}
 
@@ -50,6 +55,7 @@ use Rattle.peer_steps.proofs.Accepted.{Right, fault_right, unbuilt_right, done_s
 abbrev plain_of : RowNews → Plain
 plain_of (appears m) = show_plain m
 plain_of (disappears net) = packet.Despawn net
+plain_of (changes ts) = packet.Delta ts
 
 some_news : (a b : RowNews) → Some a ≡ Some b → a ≡ b
 some_news a b h = cc
@@ -58,11 +64,13 @@ some_news a b h = cc
 read_is : (m : Message) (x : RowNews) → row_read m ≡ Some x → m ≡ plain_packet (plain_of x)
 read_is (plain_packet (packet.Spawn scene spawner net syncs name arg values)) x h = ap (λ n. plain_packet (plain_of n)) (some_news (appears (record { scene = scene; spawner = spawner; net = net; syncs = syncs; name = name; arg = arg; values = values })) x h)
 read_is (plain_packet (packet.Despawn net)) x h = ap (λ n. plain_packet (plain_of n)) (some_news (disappears net) x h)
+read_is (plain_packet (packet.Delta ts)) x h = ap (λ n. plain_packet (plain_of n)) (some_news (changes ts) x h)
 read_is m x h = absurd (cc h)
 
 unread_is : (m : Message) → row_read m ≡ None → is_built_message m ≡ false
 unread_is (plain_packet (packet.Spawn scene spawner net syncs name arg values)) h = absurd (cc h)
 unread_is (plain_packet (packet.Despawn net)) h = absurd (cc h)
+unread_is (plain_packet (packet.Delta ts)) h = absurd (cc h)
 unread_is m h = refl
 
 -- packets that are taken
@@ -115,6 +123,7 @@ module _ (form : PacketForm) (k : Kept) (es : List Event) (from : ℤ) (class : 
           rows = h.rows ∙ sym (ap (map (kept_row k.who)) (rows_receive k.who gs from class bytes (form.read_packet bytes)));
           seen = h.seen ∙ ap (λ (v : Sights). v.rows) same_sights;
           fixed = h.fixed ∙ ap (λ (v : Sights). v.fixed) same_sights;
+          told = subst (λ e. IsTold k.who (e ∷ gs) k.told) (sym event) (still_told k.who gs (got from class bytes p) k.told h.valid (built_done k.who (got from class bytes p ∷ gs) (fresh, h.accepted)) refl refl refl refl h.told);
         })
       where
         no_fault : fault_of k.who gs (got from class bytes p) ≡ None
@@ -152,12 +161,26 @@ hidden_right form k es from class bytes net h read linked o judged = by o (sym (
     by None why = plain_done form k es from class bytes (packet.Despawn net) h read refl linked (without_number from net k.nodes) why refl refl refl refl
         (λ fresh. ap (without_number from net) h.nodes ∙ sym (tree_hide k.who gs h.valid h.accepted (facts k.who gs h.valid h.accepted) from class bytes net fresh))
 
+-- values of some synchronizers
+changes_right : (form : PacketForm) (k : Kept) (es : List Event) (from : ℤ) (class : Class) (bytes : List ℕ) (ts : List DeltaEntry) → StandsFor form k es → form.read_packet bytes ≡ Ok (plain_packet (packet.Delta ts))
+    → link_fault k.who (accepted_events form k.who es) from ≡ None → (o : Option FaultOf) → entries_judged (kept_tree k) from ts ≡ o → Right form k es (Received from class bytes) (shown_taken k (entries_by from ts (kept_tree k) o))
+changes_right form k es from class bytes ts h read linked o judged = by o (sym (entries_judged_is k gs h from ts linked) ∙ judged)
+  where
+    gs : List Heard
+    gs = accepted_events form k.who es
+
+    by : (r : Option FaultOf) → packet_fault k.who gs from (packet.Delta ts) ≡ r → Right form k es (Received from class bytes) (shown_taken k (entries_by from ts (kept_tree k) r))
+    by (Some f) why = plain_fault form k es from class bytes (packet.Delta ts) h read refl linked f why
+    by None why = plain_done form k es from class bytes (packet.Delta ts) h read refl linked (entries_put from ts (kept_tree k)).nodes why refl refl refl refl
+        (λ fresh. entries_put_are k gs h from ts linked why ∙ sym (tree_tell k.who gs h.valid h.accepted (facts k.who gs h.valid h.accepted) from class bytes ts fresh))
+
 -- a packet from a link that is up, by the news that it is read as
 message_right : (form : PacketForm) (k : Kept) (es : List Event) (from : ℤ) (class : Class) (bytes : List ℕ) (m : Message) → StandsFor form k es → form.read_packet bytes ≡ Ok m
     → link_fault k.who (accepted_events form k.who es) from ≡ None → (x : Option RowNews) → row_read m ≡ x → Right form k es (Received from class bytes) (message_taken k from x)
 message_right form k es from class bytes m h read linked None is = unbuilt_right form k es (Received from class bytes) (given_by form k.who es from class bytes m None false read linked (unread_is m is))
 message_right form k es from class bytes m h read linked (Some (appears s)) is = shown_right form k es from class bytes s h (read ∙ ap Ok (read_is m (appears s) is)) linked (shown_judged k.who.scene k.nodes from s) refl
 message_right form k es from class bytes m h read linked (Some (disappears net)) is = hidden_right form k es from class bytes net h (read ∙ ap Ok (read_is m (disappears net) is)) linked (hidden_judged k.nodes from net) refl
+message_right form k es from class bytes m h read linked (Some (changes ts)) is = changes_right form k es from class bytes ts h (read ∙ ap Ok (read_is m (changes ts) is)) linked (entries_judged (kept_tree k) from ts) refl
 
 -- a packet that is read, by whether its link is up
 linked_right : (form : PacketForm) (k : Kept) (es : List Event) (from : ℤ) (class : Class) (bytes : List ℕ) (m : Message) → StandsFor form k es → form.read_packet bytes ≡ Ok m

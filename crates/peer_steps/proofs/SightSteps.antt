@@ -40,7 +40,10 @@ use Rattle.peer_steps.specs.Kept.{Kept, kept_tree}
 use Rattle.peer_steps.specs.Track.{SightChange, fixed_sight_at, own_sighted, sighted_by, sights_set, sight_at, is_row, row_with, shown_of}
 use Rattle.peer_steps.specs.Judged.{sight_judged}
 use Rattle.peer_steps.specs.Stands.{StandsFor}
-use Rattle.peer_steps.specs.Steps.{done_with, sight_taken, sight_shifts, row_shifts, row_packet, shifts, public_change, for_change, filter_change}
+use Rattle.peer_steps.specs.Steps.{done_with, sight_taken, sight_told, sight_shifts, row_shifts, row_told as row_told_of, row_packet, shifts, public_change, for_change, filter_change}
+use Rattle.telling_laws.specs.Telling.{IsTold}
+use Rattle.peer_steps.specs.Tellings.{told_shifts}
+use Rattle.peer_steps.proofs.ToldParts.{set_told_is, fixed_told_is}
 use Rattle.peer_steps.proofs.Judging.{IsFull, sight_judged_is, sights_are}
 use Rattle.peer_steps.proofs.Accepted.{Right, refused_right, done_sends, done_right}
 use Rattle.peer_steps.proofs.OwnRows.{IsOwnAt, own_at, kept_found, shown_is, fixed_at, fixed_has}
@@ -102,6 +105,7 @@ module _ (form : PacketForm) (k : Kept) (es : List Event) (op : Operation) (path
     record Told : Type 0 where
       pub sights : sights_set (peers_up gs) (node_at k.who gs path) path n c.change (all_sights k.who gs) ≡ all_sights k.who now
       pub told : sight_shifts form given path (all_sights k.who now) ≡ map (out_of form) (sends k.who (does op) gs)
+      pub kept : IsTold k.who now (sight_told given path (all_sights k.who now) None)
 
     row_told : IsOwnAt k.who gs path → Told
     row_told own =
@@ -119,6 +123,12 @@ module _ (form : PacketForm) (k : Kept) (es : List Event) (op : Operation) (path
               ∙ ap₂ (λ before after. shifts form (shown_packet k.who now r) r.num before after (peers_up gs)) (shown_is k.who gs r own.has) (shown_is k.who now r has_now)
               ∙ shifts_are form k.who (shown_packet k.who now r) r.num (row_sight k.who gs r).shown (row_sight k.who now r).shown (peers_up gs) (all_direct k.who gs h.accepted)
               ∙ ap (map (out_of form)) (sym (sends_set_row k.who gs (does op) set r h.valid done s.is own.has own.path_is));
+          kept = subst (IsTold k.who now) (sym (
+              ap (λ o. if is_row o then row_told_of given later (row_with (or_else (option_map (λ (m : Live). m.num) o) 0) rows) else k.told) own.there
+              ∙ ap (row_told_of given later) (kept_found k.who gs r own.has)
+              ∙ ap (λ ns. told_shifts k.who.scene ns (kept_row k.who r) (shown_of r.num (all_sights k.who gs)) (shown_of r.num later) (peers_up gs) k.told) (sym s.tree)
+              ∙ ap₂ (λ before after. told_shifts k.who.scene (tree_of k.who now) (kept_row k.who r) before after (peers_up gs) k.told) (shown_is k.who gs r own.has) (shown_is k.who now r has_now)
+              )) (set_told_is k.who gs (does op) set r k.told h.valid done known_now s.is own.has own.path_is h.told);
         }
 
     fixed_told : (m : Live) → node_at k.who gs path ≡ Some m → m.place ≡ None → has_text path (fixed_paths k.who.scene) ≡ true → Told
@@ -133,6 +143,10 @@ module _ (form : PacketForm) (k : Kept) (es : List Event) (op : Operation) (path
           told = ap (λ o. if is_row o then row_shifts form given later (row_with (or_else (option_map (λ (x : Live). x.num) o) 0) rows) else []) there
               ∙ ap (λ q. if some_is (λ (p : ℕ). true) q then row_shifts form given later (row_with m.num rows) else []) unplaced
               ∙ ap (map (out_of form)) (sym (sends_set_fixed k.who gs (does op) set h.valid done s.is fixed));
+          kept = subst (IsTold k.who now) (sym (
+              ap (λ o. if is_row o then row_told_of given later (row_with (or_else (option_map (λ (x : Live). x.num) o) 0) rows) else k.told) there
+              ∙ ap (λ q. if some_is (λ (p : ℕ). true) q then row_told_of given later (row_with m.num rows) else k.told) unplaced
+              )) (fixed_told_is k.who gs (does op) set k.told h.valid done s.is fixed h.told);
         }
 
     -- whichever it names
@@ -166,8 +180,15 @@ module _ (form : PacketForm) (k : Kept) (es : List Event) (op : Operation) (path
         ∙ ap₂ (λ rs v. sight_shifts form (standing k (tree_of k.who gs) (peers_up gs) rs v) path (all_sights k.who now)) h.rows (sights_are k gs h)
         ∙ is_told.told
 
+    kept_told : IsTold k.who now (sight_told k path kept_sights None)
+    kept_told = subst (IsTold k.who now) (sym (
+        ap (λ v. sight_told k path v None) sights_now
+        ∙ ap₂ (λ ns us. sight_told (standing k ns us k.track.rows k.track.sights) path (all_sights k.who now) None) h.nodes h.up
+        ∙ ap₂ (λ rs v. sight_told (standing k (tree_of k.who gs) (peers_up gs) rs v) path (all_sights k.who now) None) h.rows (sights_are k gs h)
+        )) is_told.kept
+
     sight_done : Right form k es (Op op) (sight_taken form k path (sighted_by k.peers.up path n c k.track (kept_tree k) None))
-    sight_done = done_right form k (record k { track = record k.track { sights = kept_sights } }) es (Op op) (done_with (sight_shifts form k path kept_sights)) refl refl (s.why ∙ free) refl
+    sight_done = done_right form k (record k { track = record k.track { sights = kept_sights }; told = sight_told k path kept_sights None }) es (Op op) (done_with (sight_shifts form k path kept_sights)) refl refl (s.why ∙ free) refl
         (ap done_with told_now ∙ sym (done_sends form k.who (does op) gs _ refl s.quiet refl refl))
         (record {
           live = h.live;
@@ -181,6 +202,7 @@ module _ (form : PacketForm) (k : Kept) (es : List Event) (op : Operation) (path
           rows = h.rows ∙ sym (ap (map (kept_row k.who)) s.rows);
           seen = ap (λ (v : Sights). v.rows) sights_now;
           fixed = ap (λ (v : Sights). v.fixed) sights_now;
+          told = kept_told;
         })
 
   judged_is : sight_judged k.who k.nodes path n (some_is c.is_full (sight_at k.track.sights (live_at k.nodes path) path n)) ≡ sight_refusal k.who gs path n full

@@ -4,6 +4,7 @@ use Rattle.std.specs.Prelude.{if◌then◌else◌, Result, Err}
 use Rattle.std.proofs.lemmas.Bool.{true≢false}
 use Rattle.gd_variant.specs.Words.{has_int, some_is}
 use Rattle.gd_variant.specs.declared.value.Variant.{Variant}
+use Rattle.gd_variant.specs.declared.message.DeltaEntry.{DeltaEntry}
 use Rattle.gd_variant.specs.declared.message.Message.{Message}
 use Rattle.gd_variant.specs.declared.message.Bad.{Bad}
 use Rattle.scene_model.specs.declared.spawn.SpawnMsg.{SpawnMsg}
@@ -11,7 +12,7 @@ use Rattle.scene_model.specs.declared.event.SpawnOp.{SpawnOp}
 use Rattle.scene_model.specs.declared.event.Event.{Event}
 use Rattle.scene_model.specs.declared.event.Event.TheVariants.{Op, Up, Down, Received}
 use Rattle.scene_model.specs.declared.event.Op.{Op as Operation}
-use Rattle.scene_model.specs.declared.event.Op.TheVariants.{Spawn, Custom, Despawn, Set, Public, For, Filter}
+use Rattle.scene_model.specs.declared.event.Op.TheVariants.{Spawn, Custom, Despawn, Set, Public, For, Filter, Frame}
 use Rattle.scene_model.specs.declared.outcome.Refusal.{Refusal}
 use Rattle.scene_model.specs.declared.outcome.Refusal.TheVariants.{BadPeer}
 use Rattle.scene_model.specs.declared.outcome.Outcome.TheVariants.{Refused}
@@ -25,12 +26,13 @@ use Rattle.peer_steps.specs.Peers.{comes_judged, peer_comes, peers_after, withou
 use Rattle.peer_steps.specs.Track.{SightChange, spawned_by, despawned_by, shown_by, hidden_by, own_sighted, sighted_by, sight_at, number_at}
 use Rattle.peer_steps.specs.Judged.{lacks_server, set_judged, despawn_judged, sight_judged, hidden_judged, link_judged}
 use Rattle.peer_steps.specs.Stands.{StandsFor, is_built_event}
-use Rattle.peer_steps.specs.Steps.{RowNews, appears, disappears, unchanged, taken, up_answer, up_taken, link_taken, down_answer, down_taken, set_taken, spawn_taken, despawn_taken, sight_taken, op_taken, shown_taken, shown_answer, message_taken, linked_taken, read_taken, row_read, public_change, for_change, filter_change, is_done}
+use Rattle.peer_steps.specs.Steps.{RowNews, appears, disappears, changes, entries_by, entries_judged, unchanged, taken, up_answer, up_taken, link_taken, down_answer, down_taken, set_taken, spawn_taken, despawn_taken, sight_taken, op_taken, shown_taken, shown_answer, message_taken, linked_taken, read_taken, row_read, public_change, for_change, filter_change, is_done}
 pub use Rattle.peer_steps.proofs.Accepted.{Right}
 use Rattle.peer_steps.proofs.LinkSteps.{up_right, down_right}
 use Rattle.peer_steps.proofs.OwnSteps.{set_right, spawn_right, custom_right, despawn_right}
 use Rattle.peer_steps.proofs.SightSteps.{public_right, for_right, filter_right}
 use Rattle.peer_steps.proofs.ReceivedSteps.{read_right}
+use Rattle.peer_steps.proofs.FrameSteps.{frame_right}
 
 op_right : (form : PacketForm) (k : Kept) (es : List Event) (op : Operation) → StandsFor form k es → is_built_op op ≡ true → Right form k es (Op op) (op_taken form k op)
 op_right form k es (Spawn o) h built = spawn_right form k es o h built
@@ -40,6 +42,7 @@ op_right form k es (Set path prop value) h built = set_right form k es path prop
 op_right form k es (Public path n on) h built = public_right form k es path n on h
 op_right form k es (For path n b on) h built = for_right form k es path n b on h
 op_right form k es (Filter path n bs) h built = filter_right form k es path n bs h
+op_right form k es Frame h built = frame_right form k es h
 op_right form k es op h built = absurd (cc built)
 
 -- any event that is built
@@ -93,6 +96,7 @@ op_still form k (Set path prop value) h = set_still k path prop value (set_judge
 op_still form k (Public path n on) h = sight_still form k path n (public_change on) h
 op_still form k (For path n b on) h = sight_still form k path n (for_change b on) h
 op_still form k (Filter path n bs) h = sight_still form k path n (filter_change bs) h
+op_still form k Frame h = absurd (true≢false h)
 op_still form k op h = refl
 
 shown_still : (k : Kept) (from : ℤ) (s : SpawnMsg) (o : Option FaultOf) → is_done (shown_answer o) ≡ false → (shown_taken k (shown_by from s (kept_tree k) o)).kept ≡ k
@@ -103,10 +107,15 @@ hidden_still : (k : Kept) (from : ℤ) (net : ℕ) (o : Option FaultOf) → is_d
 hidden_still k from net (Some f) h = refl
 hidden_still k from net None h = absurd (true≢false h)
 
+changes_still : (k : Kept) (from : ℤ) (ts : List DeltaEntry) (o : Option FaultOf) → is_done (shown_answer o) ≡ false → (shown_taken k (entries_by from ts (kept_tree k) o)).kept ≡ k
+changes_still k from ts (Some f) h = refl
+changes_still k from ts None h = absurd (true≢false h)
+
 message_still : (k : Kept) (from : ℤ) (x : Option RowNews) → is_done (message_taken k from x).outcome ≡ false → (message_taken k from x).kept ≡ k
 message_still k from None h = refl
 message_still k from (Some (appears s)) h = shown_still k from s (shown_judged k.who.scene k.nodes from s) h
 message_still k from (Some (disappears net)) h = hidden_still k from net (hidden_judged k.nodes from net) h
+message_still k from (Some (changes ts)) h = changes_still k from ts (entries_judged (kept_tree k) from ts) h
 
 linked_still : (k : Kept) (from : ℤ) (m : Message) (o : Option FaultOf) → is_done (linked_taken k from m o).outcome ≡ false → (linked_taken k from m o).kept ≡ k
 linked_still k from m (Some f) h = refl

@@ -14,6 +14,7 @@ use Rattle.peer_model.specs.Bytes.{PacketForm, heard_of, answer, accepted_events
 use Rattle.peer_laws.specs.Built.{AllAccepted, is_built_op, is_unbuilt}
 use Rattle.scene_model.specs.Syncs.{fixed_syncers}
 use Rattle.sight_laws.specs.Sights.{row_sight, fixed_sight}
+use Rattle.telling_laws.specs.Telling.{IsTold}
 use Rattle.peer_steps.specs.Rows.{kept_row}
 use Rattle.peer_steps.specs.Kept.{Kept}
 
@@ -30,6 +31,7 @@ pub record HasParts (k : Kept) (es : List Heard) : Type 0 where
   pub rows : k.track.rows ≡ map (kept_row k.who) (own_rows k.who es)
   pub seen : k.track.sights.rows ≡ map (row_sight k.who es) (own_rows k.who es)
   pub fixed : k.track.sights.fixed ≡ map (fixed_sight k.who es) (fixed_syncers k.who.scene k.who.id)
+  pub told : IsTold k.who es k.told
 
 -- a peer stands for a list of events where it has the parts of the accepted ones
 abbrev pub StandsFor : PacketForm → Kept → List Event → Type 0

@@ -259,10 +259,14 @@ abbrev pub entries_put : ℤ → List DeltaEntry → TreeOf → TreeOf
 entries_put c [] tree = tree
 entries_put c (t ∷ ts) tree = entries_put c ts (delta_taken c t tree).1
 
--- received entries, by why one is a fault: a fault puts none of them
+-- the tree after received entries, by why one is a fault: a fault puts none of them
+abbrev pub entries_tree : ℤ → List DeltaEntry → TreeOf → Option FaultOf → TreeOf
+entries_tree c ts tree (Some f) = tree
+entries_tree c ts tree None = entries_put c ts tree
+
+-- received entries, by why one is a fault
 abbrev pub entries_by : ℤ → List DeltaEntry → TreeOf → Option FaultOf → Option FaultOf × TreeOf
-entries_by c ts tree (Some f) = (Some f, tree)
-entries_by c ts tree None = (None, entries_put c ts tree)
+entries_by c ts tree f = (f, entries_tree c ts tree f)
 
 -- entries that were received from a peer: why one is a fault, and the tree then
 abbrev pub entries_taken : ℤ → List DeltaEntry → TreeOf → Option FaultOf × TreeOf

@@ -17,7 +17,7 @@ use Rattle.peer_model.specs.Values.{default_value}
 use Rattle.peer_model.specs.Updates.{all_spawn_props}
 use Rattle.headless_tree.specs.Nodes.{value_at}
 use Rattle.delta_props.specs.Telling.{ToldValues, collected}
-use Rattle.telling_laws.specs.Telling.{told_all, told_none}
+use Rattle.telling_laws.specs.Telling.{told_all, told_none, told_shift, over_peers}
 use Rattle.sight_laws.specs.Sights.{Sight, RowSight, FixedSight, is_visible}
 use Rattle.peer_steps.specs.declared.rows.SpawnedRow.{SpawnedRow}
 use Rattle.peer_steps.specs.Track.{Track, row_with}
@@ -63,13 +63,11 @@ rows_shown s nodes b (r ∷ rs) t = rows_shown s nodes b rs (row_shown s nodes r
 
 -- an own row is shown to peers
 abbrev pub shown_to_all : Scene → List Live → SpawnedRow → List ℤ → ToldValues → ToldValues
-shown_to_all s nodes r [] t = t
-shown_to_all s nodes r (b ∷ bs) t = shown_to_all s nodes r bs (row_shown s nodes r b t)
+shown_to_all s nodes r bs t = over_peers (row_shown s nodes r) bs t
 
 -- an own row with these ids is hidden from peers
 abbrev pub hidden_from_all : List ℕ → List ℤ → ToldValues → ToldValues
-hidden_from_all ids [] t = t
-hidden_from_all ids (b ∷ bs) t = hidden_from_all ids bs (told_none b ids t)
+hidden_from_all ids bs t = over_peers (λ b. told_none b ids) bs t
 
 -- links
 
@@ -79,17 +77,9 @@ told_up who nodes b seen t = rows_shown who.scene nodes b seen (told_all b (firs
 
 -- settings
 
--- a peer saw a row before or not, and sees it then or not
-abbrev pub told_shift : Scene → List Live → SpawnedRow → ℤ → Bool → Bool → ToldValues → ToldValues
-told_shift s nodes r b true false t = told_none b r.ids t
-told_shift s nodes r b false true t = row_shown s nodes r b t
-told_shift s nodes r b true true t = t
-told_shift s nodes r b false false t = t
-
--- the same for each peer that is up, by those to which the row was shown before and is shown then
+-- an own row is shown to some peers before and to some then, among those that are up
 abbrev pub told_shifts : Scene → List Live → SpawnedRow → List ℤ → List ℤ → List ℤ → ToldValues → ToldValues
-told_shifts s nodes r before after [] t = t
-told_shifts s nodes r before after (b ∷ bs) t = told_shifts s nodes r before after bs (told_shift s nodes r b (has_int b before) (has_int b after) t)
+told_shifts s nodes r before after up t = over_peers (λ b. told_shift b (shown_told s nodes r) (syncers_in s r) r.ids (has_int b before) (has_int b after)) up t
 
 -- the ids of the own row with a number
 abbrev pub ids_with : ℕ → List SpawnedRow → List ℕ

@@ -48,10 +48,10 @@ pub record IsOwned (s : Scene) (auth : ℤ) (path : List ℕ) : Type 0 where
   pub there : fixed_node s path ≡ Some node
   pub own : int_eq node.auth auth ≡ true
 
-abbrev serves_right : Scene → Node → Bool
+abbrev pub serves_right : Scene → Node → Bool
 serves_right s n = not (no_target s n) && not (auth_wrong s n)
 
-served : (s : Scene) (auth : ℤ) (n : Node) (d : SyncDef) → sync_of n ≡ Some d → int_eq n.auth auth ≡ true → serves_right s n ≡ true → IsOwned s auth d.of
+pub served : (s : Scene) (auth : ℤ) (n : Node) (d : SyncDef) → sync_of n ≡ Some d → int_eq n.auth auth ≡ true → serves_right s n ≡ true → IsOwned s auth d.of
 served s auth n d is own right = step (fixed_node s d.of) refl
   where
     parts : (not (no_target s n) ≡ true) × (not (auth_wrong s n) ≡ true)
@@ -123,7 +123,7 @@ value_first q qs p = step (text_eq q.name p)
     step true = refl
     step false = refl
 
-assigned_there : (name : List ℕ) (v : Variant) (p : List ℕ) (props : List Prop) → value_in (assign name v props) p ≡ (if text_eq name p && has_prop p props then Some v else value_in props p)
+pub assigned_there : (name : List ℕ) (v : Variant) (p : List ℕ) (props : List Prop) → value_in (assign name v props) p ≡ (if text_eq name p && has_prop p props then Some v else value_in props p)
 assigned_there name v p [] = step (text_eq name p)
   where
     step : (b : Bool) → None ≡ (if b && false then Some v else None)

@@ -20,8 +20,7 @@ use Rattle.peer_model.specs.Rows.{OwnRow, own_rows, row_made, spawn_in, spawns, 
 use Rattle.peer_model.specs.Visible.{sees}
 use Rattle.peer_model.specs.Updates.{Update, Hide, Show, Replica, applied}
 use Rattle.peer_model.specs.Changes.{changes, show_of, hides_and_shows, with_tells, is_frame}
-use Rattle.peer_model.specs.Ticks.{tick_of, sampled}
-use Rattle.peer_model.specs.Answer.{Parcel, reliable, update_packet, own_sends, sends, sends_to, sample_sends}
+use Rattle.peer_model.specs.Answer.{Parcel, reliable, update_packet, own_sends, sends, sends_to}
 use Rattle.peer_laws.proofs.Tests.{never}
 use Rattle.peer_laws.proofs.Numbers.{int_is, int_same}
 use Rattle.peer_laws.proofs.Each.{all-sort_by}

@@ -1,17 +1,16 @@
 -- What is told to one peer of one synchronizer leaves what was told to others and of others, and each has one entry at most.
-use Rattle.std.proofs.Common.{◌≡◌, ℕ, ℤ, Bool, true, false, cond, not, ◌&&◌, List, [], ◌∷◌, ◌++◌, refl, sym, ap, ap₂, ◌∙◌, subst, filter, nat_eq, Option, Some, None}
-use Rattle.std.specs.Prelude.{position, slice_get, if◌then◌else◌}
+use Rattle.std.proofs.Common.{◌≡◌, ℕ, ℤ, Bool, true, false, cond, not, ◌&&◌, List, [], ◌∷◌, ◌++◌, refl, sym, ap, ap₂, ◌∙◌, subst, nat_eq, Option, Some, None}
+use Rattle.std.specs.Prelude.{position, if◌then◌else◌}
 use Rattle.std.specs.Cmp.{IsEquivalence}
-use Rattle.std.specs.List.{list_any, IsDistinct, swap_remove, Contains}
-use Rattle.std.specs.Map.{keys_of, lookup, IsKeyTest}
-use Rattle.std.specs.Option.{option_map_or}
+use Rattle.std.specs.List.{list_any, IsDistinct}
+use Rattle.std.specs.Map.{keys_of, IsKeyTest}
 use Rattle.std.specs.Ordering.{int_eq}
 use Rattle.std.proofs.lemmas.Bool.{and_parts, and_from, eqb-true, eq-eqb, true≢false}
 use Rattle.std.proofs.lemmas.Map.Keys.{IsDistinct-push}
 use Rattle.std.proofs.lemmas.Map.Made.{IsDistinct-keys_filter}
 use Rattle.indexmap.proofs.SetLemmas.{keys_insert_entry}
 use Rattle.indexmap.proofs.MapLemmas.{Found-position, swap_remove_entry-found, swap_remove_entry-missing}
-use Rattle.indexmap.proofs.RemoveLemmas.{Out, swap_out}
+use Rattle.indexmap.proofs.RemoveLemmas.{swap_out}
 use Rattle.std.proofs.lemmas.Option.{slice_get-get_or}
 use Rattle.peer_laws.proofs.Numbers.{int_is, int_same, int_comm}
 use Rattle.gd_variant.specs.declared.value.Variant.{Variant}

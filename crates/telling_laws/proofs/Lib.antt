@@ -1,1 +1,13 @@
 pub mod Keys
+pub mod Several
+pub mod Ids
+pub mod Nexts
+pub mod Peers
+pub mod Firsts
+pub mod Rows
+pub mod Events
+pub mod Telling
+pub mod Collecting
+pub mod Frames
+pub mod Serving
+pub mod RowIds

@@ -1,5 +1,5 @@
 -- What is kept of the values that each peer was told says what all events say.
-use Rattle.std.specs.Prelude.{◌≡◌, ℕ, ℤ, Bool, true, List, [], ◌∷◌, map, Option, Some, option_map}
+use Rattle.std.specs.Prelude.{◌≡◌, ℕ, ℤ, Bool, true, false, List, [], ◌∷◌, map, Some, option_map}
 use Rattle.std.specs.List.{Contains, IsDistinct}
 use Rattle.std.specs.Map.{keys_of}
 use Rattle.gd_variant.specs.declared.value.Variant.{Variant}
@@ -20,6 +20,18 @@ told_all b f (y ∷ ys) t = told_all b f ys (with_told b y.id (f y) t)
 abbrev pub told_none : ℤ → List ℕ → ToldValues → ToldValues
 told_none b [] t = t
 told_none b (id ∷ ids) t = told_none b ids (without_sync b id t)
+
+-- a peer saw the node of some synchronizers with these ids before or not, and sees it then or not
+abbrev pub told_shift : ℤ → (Syncer → List Variant) → List Syncer → List ℕ → Bool → Bool → ToldValues → ToldValues
+told_shift b f ys ids true false t = told_none b ids t
+told_shift b f ys ids false true t = told_all b f ys t
+told_shift b f ys ids true true t = t
+told_shift b f ys ids false false t = t
+
+-- what is made for peers in order
+abbrev pub over_peers : (ℤ → ToldValues → ToldValues) → List ℤ → ToldValues → ToldValues
+over_peers op [] t = t
+over_peers op (b ∷ bs) t = over_peers op bs (op b t)
 
 -- whether two keys are the same
 abbrev pub same_key : ℤ × ℕ → ℤ × ℕ → Bool
