@@ -13,7 +13,8 @@ use Rattle.sight_laws.specs.Sights.{RowSight, row_sees}
 use Rattle.delta_props.specs.Telling.{ToldValues}
 use Rattle.peer_steps.specs.declared.rows.SpawnedRow.{SpawnedRow}
 use Rattle.peer_steps.specs.Track.{seen_by}
-use Rattle.peer_steps.specs.Tellings.{told_all, rows_shown, row_shown}
+use Rattle.telling_laws.specs.Telling.{told_all}
+use Rattle.peer_steps.specs.Tellings.{rows_shown, row_shown}
 use Rattle.told_rows.specs.Places.{told_where, row_here}
 
 drop_next : {X : Type 0} (xs : List X) (i : ℕ) → drop i xs ≡ cons_option (slice_get xs i) (drop (suc i) xs)

@@ -4,7 +4,8 @@ ghost use Rattle.gd_variant.specs.Words.{some_is};
 ghost use Rattle.scene_model.specs.Syncs.{fixed_syncer, fixed_syncers, sync_id};
 ghost use Rattle.scene_model.specs.Valid.{IsValidScene};
 ghost use Rattle.sight_laws.specs.Sights.{RowSight as RowSightOf, row_sees};
-ghost use Rattle.peer_steps.specs.Tellings.{first_told, rows_shown, told_all, told_up};
+ghost use Rattle.telling_laws.specs.Telling.{told_all};
+ghost use Rattle.peer_steps.specs.Tellings.{first_told, rows_shown, told_up};
 ghost use Rattle.peer_steps.specs.Track.{seen_by};
 ghost use Rattle.told_rows.specs.Places.{row_here, told_where};
 

@@ -3,7 +3,8 @@ ghost use Rattle.std.specs.Prelude.{◌≡◌, OnOk, map, slice_get};
 ghost use Rattle.gd_variant.specs.Words.{has_int};
 ghost use Rattle.scene_model.specs.Syncs.{change_props};
 ghost use Rattle.delta_props.specs.Telling.{with_told};
-ghost use Rattle.peer_steps.specs.Tellings.{hidden_from_all, row_shown, shown_to_all, shown_told, shown_value, syncers_in, told_none, told_shift, told_shifts};
+ghost use Rattle.telling_laws.specs.Telling.{told_none, told_shift};
+ghost use Rattle.peer_steps.specs.Tellings.{hidden_from_all, row_shown, shown_to_all, shown_told, shown_value, syncers_in, told_shifts};
 ghost use Rattle.told_rows.specs.Places.{told_where};
 
 use crate::values::shown_values;
@@ -115,7 +116,7 @@ fn shift_to(
     was: bool,
     is: bool,
 ) -> Result<(), OutOfMemory>
-    ensures { OnOk result (told.new ≡ told_shift tree.now.scene tree.now.nodes row.now peer.now was is told.old) }
+    ensures { OnOk result (told.new ≡ told_shift peer.now (shown_told tree.now.scene tree.now.nodes row.now) (syncers_in tree.now.scene row.now) row.now.ids was is told.old) }
 {
     if was {
         if !is {
@@ -144,7 +145,7 @@ fn shift_for(
     before: &[i32],
     after: &[i32],
 ) -> Result<(), OutOfMemory>
-    ensures { OnOk result (told.new ≡ told_shift tree.now.scene tree.now.nodes row.now peer.now (has_int peer.now before.now) (has_int peer.now after.now) told.old) }
+    ensures { OnOk result (told.new ≡ told_shift peer.now (shown_told tree.now.scene tree.now.nodes row.now) (syncers_in tree.now.scene row.now) row.now.ids (has_int peer.now before.now) (has_int peer.now after.now) told.old) }
 {
     let was = is_among(before, peer);
     let is = is_among(after, peer);

@@ -2,7 +2,8 @@ use Rattle.std.proofs.Common.{◌≡◌, ◌+◌, drop}
 use Rattle.std.specs.Prelude.{filter_map}
 use Rattle.gd_variant.specs.Words.{numbered}
 use Rattle.scene_model.specs.Syncs.{fixed_syncer, fixed_syncers}
-use Rattle.peer_steps.specs.Tellings.{first_told, told_all}
+use Rattle.telling_laws.specs.Telling.{told_all}
+use Rattle.peer_steps.specs.Tellings.{first_told}
 use Rattle.peer_steps.specs.Sites.{who_at}
 use Rattle.told_rows.proofs.links.show_fixed.Given as goal
 

@@ -1,5 +1,5 @@
 use Rattle.std.proofs.Common.{◌≡◌, drop}
-use Rattle.peer_steps.specs.Tellings.{told_none}
+use Rattle.telling_laws.specs.Telling.{told_none}
 use Rattle.told_rows.proofs.rows.hide_from.Given as goal
 
 abbrev pub invariant-loop-id : goal.invariant-loop-id

@@ -1,7 +1,8 @@
 use Rattle.std.proofs.Common.{◌≡◌, ap, sym, ◌∙◌, length, drop, arith}
 use Rattle.scene_model.specs.Syncs.{Syncer}
 use Rattle.peer_model.specs.Rows.{syncs_at}
-use Rattle.peer_steps.specs.Tellings.{shown_told, syncers_in, told_all}
+use Rattle.telling_laws.specs.Telling.{told_all}
+use Rattle.peer_steps.specs.Tellings.{shown_told, syncers_in}
 use Rattle.std.proofs.Common.{List, Some}
 use Rattle.told_rows.proofs.Steps.{told_on, past_ids}
 use Rattle.told_rows.proofs.rows.show_to.Goals as goal

@@ -1,5 +1,6 @@
 use Rattle.std.proofs.Common.{◌≡◌, drop}
-use Rattle.peer_steps.specs.Tellings.{row_shown, shown_told, syncers_in, told_all}
+use Rattle.telling_laws.specs.Telling.{told_all}
+use Rattle.peer_steps.specs.Tellings.{row_shown, shown_told, syncers_in}
 use Rattle.told_rows.proofs.rows.show_to.Given as goal
 
 abbrev pub invariant-loop-k : goal.invariant-loop-k
