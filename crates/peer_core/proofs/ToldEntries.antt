@@ -44,7 +44,7 @@ use Rattle.peer_steps.specs.Peers.{Peers}
 use Rattle.peer_steps.specs.Sound.{are_sound_entries}
 use Rattle.peer_steps.specs.Steps.{Taken, shown_answer, shown_taken, entries_judged, entries_put, entries_by, entries_taken}
 use Rattle.peer_steps.specs.Track.{Track}
-use Rattle.peer_core.specs.Forms.{entry_packet}
+use Rattle.peer_steps.proofs.EntriesFit.{fits_entries}
 use Rattle.peer_core.specs.Parts.{AreRight, is_right_entry, parts_kept}
 
 -- values of nodes
@@ -124,85 +124,9 @@ frame_right b s nodes (x ∷ xs) told valid h =
 
 -- received entries
 
-all_set : {X : Type 0} (p : X → Bool) (xs : List X) (i : ℕ) (y : X) → p y ≡ true → list_all p xs ≡ true → list_all p (slice_set xs i y) ≡ true
-all_set p [] zero y k h = refl
-all_set p [] (suc i) y k h = refl
-all_set p (x ∷ xs) zero y k h = and_from (p y) (list_all p xs) k (and_parts (p x) (list_all p xs) h).1
-all_set p (x ∷ xs) (suc i) y k h = let parts = and_parts (p x) (list_all p xs) h in and_from (p x) (list_all p (slice_set xs i y)) parts.0 (all_set p xs i y k parts.1)
-
-all_placed : {X : Type 0} (p : X → Bool) (f : X → X) → ((x : X) → p x ≡ true → p (f x) ≡ true) → (xs : List X) (i : ℕ) → list_all p xs ≡ true → list_all p (change_at i f xs) ≡ true
-all_placed {X} p f keep xs i h = by (slice_get xs i) refl
-  where
-    by : (o : Option X) → slice_get xs i ≡ o → list_all p (option_map_or (λ x. slice_set xs i (f x)) o xs) ≡ true
-    by None e = h
-    by (Some x) e = all_set p xs i (f x) (keep x (all_at p xs i x e h)) h
-
-all_first : {X : Type 0} (p test : X → Bool) (f : X → X) → ((x : X) → p (f x) ≡ true) → (xs : List X) → list_all p xs ≡ true → list_all p (change_first test f xs) ≡ true
-all_first p test f right [] h = refl
-all_first {X} p test f right (x ∷ xs) h = step (test x) (all_first p test f right xs parts.1)
-  where
-    parts : (p x ≡ true) × (list_all p xs ≡ true)
-    parts = and_parts (p x) (list_all p xs) h
-
-    step : (b : Bool) → list_all p (change_first test f xs) ≡ true → list_all p (cond b (f x ∷ xs) (x ∷ change_first test f xs)) ≡ true
-    step true more = and_from (p (f x)) (list_all p xs) (right x) parts.1
-    step false more = and_from (p x) (list_all p (change_first test f xs)) parts.0 more
-
-put_fits : (me : ℤ) (place : ℕ) (name : List ℕ) (value : Variant) (t : TreeOf) (k : Track) → is_right_value value ≡ true → Fits me t k → Fits me (record t { nodes = put_prop place name value t.nodes }) k
-put_fits me place name value t k right f =
-    let put = λ (n : Live). record n { values = change_first (λ (p : Prop). text_eq p.name name) (with_value value) n.values } in
-    record {
-      valid = f.valid;
-      values = all_placed has_right_values put (λ n h. all_first (λ (p : Prop). is_right_value p.value) (λ (p : Prop). text_eq p.name name) (with_value value) (λ p. right) n.values h) t.nodes place f.values;
-      rows = f.rows;
-      before = all_placed (is_before me k.next) put (λ n h. h) t.nodes place f.before;
-    }
-
-puts_fit : (me : ℤ) (place : ℕ) (names : List (List ℕ)) (values : List Variant) (t : TreeOf) (k : Track) → list_all is_right_value values ≡ true → Fits me t k → Fits me (record t { nodes = put_props place (zip names values) t.nodes }) k
-puts_fit me place [] values t k right f = record { valid = f.valid; values = f.values; rows = f.rows; before = f.before }
-puts_fit me place (p ∷ ps) [] t k right f = record { valid = f.valid; values = f.values; rows = f.rows; before = f.before }
-puts_fit me place (p ∷ ps) (v ∷ vs) t k right f =
-    let parts = and_parts (is_right_value v) (list_all is_right_value vs) right in
-    puts_fit me place ps vs (record t { nodes = put_prop place p v t.nodes }) k parts.1 (put_fits me place p v t k parts.0 f)
-
-both_right : (vs : List Variant) → list_all is_sound vs ≡ true → list_all fits vs ≡ true → list_all is_right_value vs ≡ true
-both_right [] h k = refl
-both_right (v ∷ vs) h k =
-    let sound = and_parts (is_sound v) (list_all is_sound vs) h in
-    let short = and_parts (fits v) (list_all fits vs) k in
-    and_from (is_right_value v) (list_all is_right_value vs) (and_from (is_sound v) (fits v) sound.0 short.0) (both_right vs sound.1 short.1)
-
--- an entry that is no fault has no value that is too long
-judged_short : (e : DeltaEntry) (d : SyncDef) → entry_judged e d ≡ None → list_all fits e.values ≡ true
-judged_short e d h =
-    let wrong = no_row (wrong_delta e d) fault.WrongValues [] (no_row (bad_mask e.mask d) (fault.BadMask e.mask) (when (wrong_delta e d) fault.WrongValues ∷ []) h).1 in
-    not_false (list_all fits e.values) (or_parts (not (nat_eq (length e.values) (length (masked e.mask (change_props d))))) (not (list_all fits e.values)) wrong.0).1
-
-entry_fits : (me : ℤ) (e : DeltaEntry) (d : Option SyncDef) (place : Option ℕ) (t : TreeOf) (k : Track) → list_all is_sound e.values ≡ true → def_judged e d ≡ None → Fits me t k → Fits me (record t { nodes = entry_put e d place t.nodes }) k
-entry_fits me e None place t k sound h f = absurd (let some : Some (fault.NoSync e.id) ≡ None = h in cc some)
-entry_fits me e (Some d) None t k sound h f = record { valid = f.valid; values = f.values; rows = f.rows; before = f.before }
-entry_fits me e (Some d) (Some place) t k sound h f = puts_fit me place (masked e.mask (change_props d)) e.values t k (both_right e.values sound (judged_short e d h)) f
-
-one_fits : (me : ℤ) (e : DeltaEntry) (t : TreeOf) (k : Track) (m : Result Meant Fault) (o : Option Fault) → list_all is_sound e.values ≡ true → meant_judged t.scene e m ≡ o → Fits me t k → Fits me (record t { nodes = nodes_taken t.scene e o m t.nodes }) k
-one_fits me e t k (Err x) None sound h f = absurd (let some : Some x ≡ None = h in cc some)
-one_fits me e t k (Ok x) None sound h f = entry_fits me e (def_at t.scene x.at) x.place t k sound h f
-one_fits me e t k (Err x) (Some y) sound h f = record { valid = f.valid; values = f.values; rows = f.rows; before = f.before }
-one_fits me e t k (Ok x) (Some y) sound h f = record { valid = f.valid; values = f.values; rows = f.rows; before = f.before }
-
-entries_fit : (me from : ℤ) (es : List DeltaEntry) (t : TreeOf) (k : Track) → are_sound_entries es ≡ true → Fits me t k → Fits me (entries_put from es t) k
-entries_fit me from [] t k sound f = f
-entries_fit me from (e ∷ es) t k sound f =
-    let parts = and_parts (list_all is_sound e.values) (are_sound_entries es) sound in
-    let m = meant t.scene t.nodes from e.id in
-    entries_fit me from es (delta_taken from e t).1 k parts.1 (one_fits me e t k m (meant_judged t.scene e m) parts.0 refl f)
-
-taken_fits : (me from : ℤ) (es : List DeltaEntry) (t : TreeOf) (k : Track) → are_sound_entries es ≡ true → Fits me t k → (o : Option Fault) → Fits me (entries_by from es t o).1 k
-taken_fits me from es t k sound f (Some x) = f
-taken_fits me from es t k sound f None = entries_fit me from es t k sound f
-
 pub changed_right : (p : Peers) (t u : TreeOf) (r : Track) (from : ℤ) (es : List DeltaEntry) (o : Option Fault) → are_sound_entries es ≡ true → (o, u) ≡ entries_taken from es t → AreRight p.me t r → AreRight p.me u r
 changed_right p t u r from es o sound made h = record {
-  fits = subst (λ (x : Option Fault × TreeOf). Fits p.me x.1 r) (sym made) (taken_fits p.me from es t r sound h.fits (entries_judged t from es));
+  fits = subst (λ (x : Option Fault × TreeOf). Fits p.me x.1 r) (sym made) (fits_entries p.me r from es t sound h.fits);
   tracked = h.tracked;
 }
 
