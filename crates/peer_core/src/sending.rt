@@ -25,7 +25,7 @@ use scene_model::{Class, Out, OutList, SyncDef};
 use spawn_track::{Track, copy_argument, path_id, syncs_of};
 use sqlite_items::{Items, at as item_at};
 use std::alloc::Global;
-use told_rows::value_of;
+use told_rows::{is_among, value_of};
 
 fn push_values(
     alloc: Global,
@@ -287,12 +287,6 @@ fn push_shift(
         push_copy(out, alloc, peer, show)?;
     }
     Ok(())
-}
-
-fn is_among(peers: &[i32], peer: &i32) -> bool
-    ensures { result ≡ has_int peer.now peers.now }
-{
-    peers.contains(peer)
 }
 
 /// What a peer is told of a row, by those to which it was shown before and is shown now.

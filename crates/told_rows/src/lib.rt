@@ -8,5 +8,5 @@ mod rows;
 mod values;
 
 pub use links::come_up;
-pub use rows::{hide_row, shift_row, show_row};
+pub use rows::{hide_row, is_among, shift_row, show_row};
 pub use values::value_of;

@@ -130,7 +130,8 @@ fn shift_to(
     }
 }
 
-fn is_among(peers: &[i32], peer: &i32) -> bool
+/// Whether a peer is among some peers.
+pub fn is_among(peers: &[i32], peer: &i32) -> bool
     ensures { result ≡ has_int peer.now peers.now }
 {
     peers.contains(peer)
