@@ -1,5 +1,5 @@
 -- Received values leave a tree and the own rows fitting.
-use Rattle.std.proofs.Common.{◌≡◌, ℕ, zero, suc, ℤ, Bool, true, not, ◌&&◌, ◌||◌, List, [], ◌∷◌, refl, sym, ap, ◌∙◌, nat_eq, length, Option, Some, None}
+use Rattle.std.proofs.Common.{◌≡◌, ℕ, zero, suc, ℤ, Bool, true, not, List, [], ◌∷◌, refl, sym, ap, ◌∙◌, nat_eq, length, Option, Some, None}
 use Rattle.std.specs.Prelude.{slice_get, zip, Result, Ok, Err}
 use Rattle.std.specs.List.{list_all, slice_set}
 use Rattle.std.specs.Option.{option_map_or}
@@ -13,7 +13,7 @@ use Rattle.scene_model.specs.declared.outcome.Fault.{Fault}
 use Rattle.scene_model.specs.declared.outcome.Fault.TheVariants.{BadMask, WrongValues}
 use Rattle.scene_model.specs.Syncs.{change_props}
 use Rattle.peer_model.specs.Faults.{bad_mask, wrong_delta}
-use Rattle.peer_model.specs.Updates.{Live, masked}
+use Rattle.peer_model.specs.Updates.{masked}
 use Rattle.peer_model.specs.View.{fits}
 use Rattle.headless_tree.specs.Lists.{change_at}
 use Rattle.headless_tree.specs.Nodes.{TreeOf}

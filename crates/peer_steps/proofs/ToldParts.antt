@@ -3,17 +3,17 @@ use Rattle.std.proofs.Common.{◌≡◌, ℕ, ◌+◌, ℤ, Bool, true, false, c
 use Rattle.std.specs.Prelude.{flat_map, zip, find, option_map, if◌then◌else◌}
 use Rattle.std.specs.List.{list_all, AllByRecursion, Contains}
 use Rattle.std.specs.Ordering.{int_eq}
-use Rattle.std.proofs.lemmas.Bool.{and_parts, or_parts, true≢false}
+use Rattle.std.proofs.lemmas.Bool.{and_parts, true≢false}
 use Rattle.std.proofs.lemmas.List.{map-append}
 use Rattle.std.proofs.lemmas.List.Elements.{filter-append}
-use Rattle.gd_variant.specs.Words.{first_some, has_int, has_nat, has_text, numbered, or_else, some_is, text_eq}
+use Rattle.gd_variant.specs.Words.{first_some, has_int, has_text, numbered, or_else, some_is, text_eq}
 use Rattle.gd_variant.specs.declared.value.Variant.{Variant}
 use Rattle.gd_variant.specs.declared.value.Variant.TheVariants.{Nil}
 use Rattle.scene_model.specs.declared.scene.Prop.{Prop}
 use Rattle.scene_model.specs.declared.scene.SyncDef.{SyncDef}
 use Rattle.scene_model.specs.declared.event.SpawnOp.{SpawnOp}
 use Rattle.scene_model.specs.declared.event.Op.TheVariants.{Despawn}
-use Rattle.scene_model.specs.Lookup.{fixed_paths, has_prop, prop_names, scene_at, value_in}
+use Rattle.scene_model.specs.Lookup.{fixed_paths, has_prop, scene_at, value_in}
 use Rattle.scene_model.specs.Nodes.{Live}
 use Rattle.scene_model.specs.Syncs.{Syncer, change_props, fixed_syncers, row_syncer}
 use Rattle.scene_model.specs.Valid.{IsValidScene}
@@ -35,7 +35,7 @@ use Rattle.peer_laws.proofs.OwnValues.{own_row_there, value_there}
 use Rattle.world_laws.specs.Done.{AllDone}
 use Rattle.world_laws.proofs.Properties.{assign_names}
 use Rattle.sight_laws.specs.Sights.{FixedSight, fixed_sight, is_visible, row_sight, sight_of}
-use Rattle.sight_laws.specs.Told.{row_first_value, row_first_told}
+use Rattle.sight_laws.specs.Told.{row_first_value}
 use Rattle.sight_laws.specs.Seen.{SightSet, is_still, set_in}
 use Rattle.sight_laws.proofs.Events.{up_alone, down_alone, set_alone, spawn_alone, up_same}
 use Rattle.sight_laws.proofs.Firsts.{assigned_there}
