@@ -5,7 +5,7 @@ use Rattle.scene_model.specs.declared.event.Op.TheVariants as op
 use Rattle.scene_model.specs.declared.outcome.Fault.TheVariants as fault_row
 use Rattle.peer_model.specs.Heard.{does}
 use Rattle.peer_model.specs.Answer.{done, fault}
-use Rattle.peer_rows.specs.Session.{frame, call, up, got_packet, sends, sends_tick, only, nothing, reply_after, sampled_after}
+use Rattle.peer_rows.specs.Session.{call, up, got_packet, sends, sends_tick, only, nothing, reply_after, sampled_after}
 use Rattle.peer_rows.specs.SceneF.{server, int, spawn_x, spawn_q, q_packet, ran}
 
 -- a call to this peer alone runs here and sends nothing

@@ -17,7 +17,7 @@ use Rattle.scene_model.specs.Methods.{method_digest}
 use Rattle.peer_model.specs.Heard.{Who, Heard, gets}
 use Rattle.peer_model.specs.Answer.{done, refused, fault, passed_on, accepted, up_sends, down_sends}
 use Rattle.peer_rows.specs.Scenes.{scene_b, peer, prop, p0, p1, method_a, method_bc}
-use Rattle.peer_rows.specs.Session.{spawn, set, frame, call, raw, up, down, got, got_packet, got_loose, sends, sends_loose, sends_tick, sends_news, relays, only, nothing, shown, report_after, reply_after, sampled_after}
+use Rattle.peer_rows.specs.Session.{spawn, set, call, raw, up, down, got, got_packet, got_loose, sends, sends_loose, sends_tick, sends_news, relays, only, nothing, shown, report_after, reply_after, sampled_after}
 
 abbrev pub server : Who
 server = peer 1 scene_b

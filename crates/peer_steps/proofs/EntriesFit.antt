@@ -74,7 +74,7 @@ module _ (me : ℤ) (k : Track) where
   taken_fits t tree sound f None (Err w) judged = f
   taken_fits t tree sound f None (Ok x) judged = entry_fits t tree sound f (def_at tree.scene x.at) x.place (λ d e. sym (ap (def_judged t) e) ∙ judged)
 
-  pub fits_put : (c : ℤ) (ts : List DeltaEntry) (tree : TreeOf) → are_sound_entries ts ≡ true → Fits me tree k → Fits me (entries_put c ts tree) k
+  fits_put : (c : ℤ) (ts : List DeltaEntry) (tree : TreeOf) → are_sound_entries ts ≡ true → Fits me tree k → Fits me (entries_put c ts tree) k
   fits_put c [] tree sound f = f
   fits_put c (t ∷ ts) tree sound f =
       let parts = and_parts (list_all is_sound t.values) (are_sound_entries ts) sound in

@@ -224,7 +224,7 @@ mapped_paths : (f : Live → Live) → ((n : Live) → (f n).path ≡ n.path) �
 mapped_paths f same [] = refl
 mapped_paths f same (n ∷ ns) = ap₂ (λ p ps. p ∷ ps) (same n) (mapped_paths f same ns)
 
-pub stage_after : (s : Scene) (c : ℤ) (o : Option Syncer) (t : DeltaEntry) (nodes : List Live) → Stage s c nodes → Stage s c (map (told_node c o t) nodes)
+stage_after : (s : Scene) (c : ℤ) (o : Option Syncer) (t : DeltaEntry) (nodes : List Live) → Stage s c nodes → Stage s c (map (told_node c o t) nodes)
 stage_after s c o t nodes stage = record {
   apart = ap has_twice (mapped_paths (told_node c o t) (node_path c o t) nodes) ∙ stage.apart;
   unshared = subst Unshared (sym (rows_told c o t nodes)) (map_unshared (tell_node o t) (tell_numbers o t) (rows_under c nodes) stage.unshared);

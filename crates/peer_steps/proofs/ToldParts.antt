@@ -127,7 +127,7 @@ pub shown_first : (who : Who) (es : List Heard) (e : Heard) (v : IsValidScene wh
 shown_first who es e v all plain facts b r y up seen mine new = values_are who (e ∷ es) facts r (own_of who (e ∷ es) b r seen) (change_props y.def) (first_row who es e b r y v all plain up seen mine new)
 
 -- rows that are shown to a new peer
-pub rows_are : (who : Who) (nodes : List Live) (b : ℤ) (rs : List OwnRow) (t : ToldValues) → rows_shown who.scene nodes b (map (kept_row who) rs) t ≡ rows_told who b (λ r. shown_told who.scene nodes (kept_row who r)) rs t
+rows_are : (who : Who) (nodes : List Live) (b : ℤ) (rs : List OwnRow) (t : ToldValues) → rows_shown who.scene nodes b (map (kept_row who) rs) t ≡ rows_told who b (λ r. shown_told who.scene nodes (kept_row who r)) rs t
 rows_are who nodes b [] t = refl
 rows_are who nodes b (r ∷ rs) t = rows_are who nodes b rs (told_all b (shown_told who.scene nodes (kept_row who r)) (row_syncers_of who r) t)
 
@@ -219,7 +219,7 @@ has_filtered p b (c ∷ bs) = step (int_eq b c) refl (p c) refl (has_filtered p 
     step false e t f more = other (p c) e ∙ more ∙ sym (ap (λ x. p b && (x || has_int b bs)) e)
 
 -- a row with who sees it
-pub shown_has : (who : Who) (es : List Heard) (b : ℤ) (r : OwnRow) → is_up es b ≡ true → has_int b (row_sight who es r).shown ≡ sees who es b r
+shown_has : (who : Who) (es : List Heard) (b : ℤ) (r : OwnRow) → is_up es b ≡ true → has_int b (row_sight who es r).shown ≡ sees who es b r
 shown_has who es b r up = has_filtered (λ c. sees who es c r) b (peers_up es) ∙ ap (λ x. sees who es b r && x) (has_up es b ∙ up) ∙ and_true (sees who es b r)
   where
     and_true : (x : Bool) → (x && true) ≡ x
