@@ -5,7 +5,7 @@ use Rattle.scene_model.specs.declared.event.Op.TheVariants as op
 use Rattle.scene_model.specs.declared.outcome.Fault.TheVariants as fault_row
 use Rattle.peer_model.specs.Heard.{does}
 use Rattle.peer_model.specs.Answer.{done, fault}
-use Rattle.peer_rows.specs.Session.{frame, call, up, got_packet, sends, sends_tick, only, nothing, reply_after}
+use Rattle.peer_rows.specs.Session.{call, up, got_packet, sends, sends_tick, only, nothing, reply_after, sampled_after}
 use Rattle.peer_rows.specs.SceneF.{server, int, spawn_x, spawn_q, q_packet, ran}
 
 -- a call to this peer alone runs here and sends nothing
@@ -26,7 +26,7 @@ SecondPathIsNext = reply_after server (up 2 ∷ spawn_x ∷ spawn_q (codes "y") 
 
 -- a call that doesn't run here sets nothing here, be its method local or not
 abbrev pub RunElsewhereSetsNothing : Type 0
-RunElsewhereSetsNothing = reply_after server (up 2 ∷ call 0 (codes "a") (codes "hit") (int 5 ∷ []) ∷ call 2 (codes "a") (codes "say") (int 6 ∷ []) ∷ []) frame ≡ only (sends_tick 2 1 (packet.Sync 1 []) ∷ [])
+RunElsewhereSetsNothing = sampled_after server (up 2 ∷ call 0 (codes "a") (codes "hit") (int 5 ∷ []) ∷ call 2 (codes "a") (codes "say") (int 6 ∷ []) ∷ []) ≡ sends_tick 2 1 (packet.Sync 1 []) ∷ []
 
 -- a node that is spawned anew has the methods of its new scene
 abbrev pub MethodsOfTheNewScene : Type 0

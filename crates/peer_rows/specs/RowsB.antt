@@ -17,7 +17,7 @@ use Rattle.scene_model.specs.Methods.{method_digest}
 use Rattle.peer_model.specs.Heard.{Who, Heard, gets}
 use Rattle.peer_model.specs.Answer.{done, refused, fault, passed_on, accepted, up_sends, down_sends}
 use Rattle.peer_rows.specs.Scenes.{scene_b, peer, prop, p0, p1, method_a, method_bc}
-use Rattle.peer_rows.specs.Session.{spawn, set, frame, call, raw, up, down, got, got_packet, got_loose, sends, sends_loose, sends_tick, sends_news, relays, only, nothing, shown, report_after, reply_after}
+use Rattle.peer_rows.specs.Session.{spawn, set, call, raw, up, down, got, got_packet, got_loose, sends, sends_loose, sends_tick, sends_news, relays, only, nothing, shown, report_after, reply_after, sampled_after}
 
 abbrev pub server : Who
 server = peer 1 scene_b
@@ -58,7 +58,7 @@ SpawnSends = reply_after server (up 2 ∷ []) spawn_x ≡ only (sends 2 (x_packe
 
 -- a frame tells the change reliably, and the sample unreliably
 abbrev pub FrameTells : Type 0
-FrameTells = reply_after server (with_x ++ set (codes "a/x") (codes "dir") p1 ∷ []) frame ≡ only (sends 2 delta_x ∷ sends_tick 2 1 (sync_x 1 p0) ∷ [])
+FrameTells = sampled_after server (with_x ++ set (codes "a/x") (codes "dir") p1 ∷ []) ≡ sends 2 delta_x ∷ sends_tick 2 1 (sync_x 1 p0) ∷ []
 
 abbrev pub ChangeIsReported : Type 0
 ChangeIsReported = report_after two (up 1 ∷ got_packet 1 (x_packet p0) ∷ got_packet 1 delta_x ∷ []) ≡ tree_with (pos 1 ∷ []) 10 (x_row p0 p1 ∷ [])

@@ -1,5 +1,5 @@
 -- Received entries: why one is a fault, and the nodes with their values, by what is kept and by the definitions.
-use Rattle.std.proofs.Common.{◌≡◌, ℕ, zero, suc, ℤ, Bool, true, false, cond, not, ◌&&◌, List, [], ◌∷◌, ◌++◌, refl, sym, ap, ◌∙◌, subst, map, filter, Option, Some, None}
+use Rattle.std.proofs.Common.{◌≡◌, ℕ, zero, suc, ℤ, Bool, true, false, cond, List, [], ◌∷◌, ◌++◌, refl, sym, ap, ◌∙◌, subst, map, filter, Option, Some, None}
 use Rattle.std.specs.Prelude.{flat_map, if◌then◌else◌, option_map, slice_get}
 use Rattle.std.specs.List.{list_all, AllByRecursion}
 use Rattle.std.specs.Ordering.{int_eq}
@@ -112,13 +112,14 @@ module _ (who : Who) (es : List Heard) (v : IsValidScene who.scene) (all : AllAc
   fixed_names : (ns : List Node) → list_all node_apart ns ≡ true → AllByRecursion (IsApart c) (map (fixed_now who es) ns)
   fixed_names [] h = tt
   fixed_names (n ∷ ns) h =
-      let parts = and_parts (node_apart n) (list_all node_apart ns) h in
-      ((λ own.
-          let same = int_is n.auth c own in
-          ap (λ b. has_twice (prop_names (if b then own_values who es n.path n.props else values_seen who es n))) (ap (λ a. int_eq a who.id) same ∙ foreign)
-          ∙ ap (λ a. has_twice (prop_names (or_else (option_map (λ (m : Live). m.values) (live_at (view who es a).fixed n.path)) n.props))) same
-          ∙ found_apart (view who es c).fixed n.path fixed_seen n.props (unnot (has_twice (prop_names n.props)) parts.0)),
-      fixed_names ns parts.1)
+      let parts = and_parts (node_apart n) (list_all node_apart ns) h in (
+        (λ own.
+            let same = int_is n.auth c own in
+            ap (λ b. has_twice (prop_names (if b then own_values who es n.path n.props else values_seen who es n))) (ap (λ a. int_eq a who.id) same ∙ foreign)
+            ∙ ap (λ a. has_twice (prop_names (or_else (option_map (λ (m : Live). m.values) (live_at (view who es a).fixed n.path)) n.props))) same
+            ∙ found_apart (view who es c).fixed n.path fixed_seen n.props (unnot (has_twice (prop_names n.props)) parts.0)),
+        fixed_names ns parts.1,
+      )
 
   made_apart : (ns : List Live) → AllByRecursion (IsMade who.scene) ns → AllByRecursion (IsApart c) ns
   made_apart [] h = tt

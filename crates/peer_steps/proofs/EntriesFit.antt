@@ -1,5 +1,5 @@
 -- Received values leave a tree and the own rows fitting.
-use Rattle.std.proofs.Common.{◌≡◌, ℕ, zero, suc, ℤ, Bool, true, not, ◌&&◌, ◌||◌, List, [], ◌∷◌, refl, sym, ap, ◌∙◌, nat_eq, length, Option, Some, None}
+use Rattle.std.proofs.Common.{◌≡◌, ℕ, zero, suc, ℤ, Bool, true, not, List, [], ◌∷◌, refl, sym, ap, ◌∙◌, nat_eq, length, Option, Some, None}
 use Rattle.std.specs.Prelude.{slice_get, zip, Result, Ok, Err}
 use Rattle.std.specs.List.{list_all, slice_set}
 use Rattle.std.specs.Option.{option_map_or}
@@ -13,7 +13,7 @@ use Rattle.scene_model.specs.declared.outcome.Fault.{Fault}
 use Rattle.scene_model.specs.declared.outcome.Fault.TheVariants.{BadMask, WrongValues}
 use Rattle.scene_model.specs.Syncs.{change_props}
 use Rattle.peer_model.specs.Faults.{bad_mask, wrong_delta}
-use Rattle.peer_model.specs.Updates.{Live, masked}
+use Rattle.peer_model.specs.Updates.{masked}
 use Rattle.peer_model.specs.View.{fits}
 use Rattle.headless_tree.specs.Lists.{change_at}
 use Rattle.headless_tree.specs.Nodes.{TreeOf}
@@ -74,7 +74,7 @@ module _ (me : ℤ) (k : Track) where
   taken_fits t tree sound f None (Err w) judged = f
   taken_fits t tree sound f None (Ok x) judged = entry_fits t tree sound f (def_at tree.scene x.at) x.place (λ d e. sym (ap (def_judged t) e) ∙ judged)
 
-  pub fits_put : (c : ℤ) (ts : List DeltaEntry) (tree : TreeOf) → are_sound_entries ts ≡ true → Fits me tree k → Fits me (entries_put c ts tree) k
+  fits_put : (c : ℤ) (ts : List DeltaEntry) (tree : TreeOf) → are_sound_entries ts ≡ true → Fits me tree k → Fits me (entries_put c ts tree) k
   fits_put c [] tree sound f = f
   fits_put c (t ∷ ts) tree sound f =
       let parts = and_parts (list_all is_sound t.values) (are_sound_entries ts) sound in

@@ -1,30 +1,23 @@
 -- Why a received entry is a fault, by the nodes of the tree and by the definitions.
-use Rattle.std.proofs.Common.{◌≡◌, ℕ, zero, suc, ◌+◌, ◌-◌, ◌<◌, ℤ, Bool, true, false, cond, not, ◌&&◌, ◌||◌, List, [], ◌∷◌, refl, sym, ap, ap₂, ◌∙◌, subst, map, nat_eq, nat_le, arith, is_some, Option, Some, None}
-use Rattle.std.specs.Prelude.{find, flat_map, if◌then◌else◌, zip, is_none, option_and_then, option_map, position, slice_get, Result, Ok, Err}
+use Rattle.std.proofs.Common.{◌≡◌, ℕ, zero, suc, ◌-◌, ℤ, Bool, true, false, List, [], ◌∷◌, refl, sym, ap, ap₂, ◌∙◌, map, nat_eq, arith, Option, Some, None}
+use Rattle.std.specs.Prelude.{find, flat_map, if◌then◌else◌, zip, option_and_then, option_map, position, slice_get}
 use Rattle.std.specs.List.{position_or_len}
 use Rattle.std.specs.Ordering.{int_eq}
-use Rattle.std.proofs.lemmas.Bool.{and_parts, leb-false, leb-true, true≢false}
-use Rattle.gd_variant.specs.Words.{first_of, has_nat, numbered, some_is, when}
+use Rattle.gd_variant.specs.Words.{numbered}
 use Rattle.gd_variant.specs.declared.message.DeltaEntry.{DeltaEntry}
 use Rattle.scene_model.specs.declared.scene.Scene.{Scene}
 use Rattle.scene_model.specs.declared.scene.Node.{Node}
 use Rattle.scene_model.specs.declared.scene.SyncDef.{SyncDef}
-use Rattle.scene_model.specs.declared.outcome.Fault.{Fault}
-use Rattle.scene_model.specs.declared.outcome.Fault.TheVariants as fault
 use Rattle.scene_model.specs.Lookup.{fixed_node_at, sync_of}
 use Rattle.scene_model.specs.Syncs.{Syncer, fixed_bit, row_syncer, row_syncers, syncer_with}
-use Rattle.peer_model.specs.Heard.{Who, Heard}
+use Rattle.peer_model.specs.Heard.{Who}
 use Rattle.peer_model.specs.Rows.{syncs_at}
 use Rattle.peer_model.specs.Updates.{Live, live_syncers}
-use Rattle.peer_model.specs.View.{tree_of}
-use Rattle.peer_model.specs.Faults.{bad_mask, delta_fault, is_fixed_id, wrong_delta}
-use Rattle.headless_tree.specs.Nodes.{is_row_of, is_spawned}
+use Rattle.peer_model.specs.Faults.{delta_fault, is_fixed_id}
 use Rattle.headless_tree.specs.Numbers.{has_number}
-use Rattle.headless_tree.proofs.Places.{found_at, found_within, first_is, get_some, not_found}
+use Rattle.headless_tree.proofs.Places.{found_at, first_is, not_found}
 use Rattle.peer_laws.specs.Facts.{rows_under}
-use Rattle.peer_laws.proofs.Places.{all_found}
-use Rattle.delta_props.specs.declared.meaning.Meant.{Meant}
-use Rattle.delta_props.specs.Taking.{def_at, def_judged, delta_judged, fixed_meant, meant_judged, row_meant, row_placed, row_sync}
+use Rattle.delta_props.specs.Taking.{def_judged, delta_judged, fixed_meant, meant_judged, row_meant, row_placed, row_sync}
 use Rattle.peer_steps.proofs.Meanings.{aim, aimed, none_find, none_found, placed_has, row_at, row_lacks, row_meant_is}
 use Rattle.peer_steps.proofs.ViewIds.{Unshared}
 

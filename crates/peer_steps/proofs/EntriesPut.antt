@@ -1,33 +1,27 @@
 -- The nodes with received values: each entry changes the one node that its synchronizer serves.
-use Rattle.std.proofs.Common.{◌≡◌, ℕ, zero, suc, ◌+◌, ◌-◌, ◌<◌, ℤ, Bool, true, false, cond, not, ◌&&◌, ◌||◌, List, [], ◌∷◌, ◌++◌, refl, sym, ap, ap₂, ◌∙◌, subst, map, filter, nat_eq, nat_le, arith, is_some, Option, Some, None}
-use Rattle.std.specs.Prelude.{find, flat_map, if◌then◌else◌, option_and_then, option_map, position, slice_get, zip, Result, Ok, Err}
-use Rattle.std.specs.List.{position_or_len, slice_set, AllByRecursion}
+use Rattle.std.proofs.Common.{◌≡◌, ℕ, zero, suc, ℤ, Bool, true, false, cond, List, [], ◌∷◌, ◌++◌, refl, sym, ap, ap₂, ◌∙◌, map, Option, Some, None}
+use Rattle.std.specs.Prelude.{flat_map, if◌then◌else◌, slice_get, zip}
+use Rattle.std.specs.List.{slice_set}
 use Rattle.std.specs.Option.{option_map_or}
 use Rattle.std.specs.Ordering.{int_eq}
 use Rattle.std.proofs.lemmas.Bool.{and_parts, or_parts, true≢false}
-use Rattle.gd_variant.specs.Words.{first_of, has_nat, has_text, text_eq}
+use Rattle.gd_variant.specs.Words.{has_text, text_eq}
 use Rattle.gd_variant.specs.declared.value.Variant.{Variant}
 use Rattle.gd_variant.specs.declared.message.DeltaEntry.{DeltaEntry}
 use Rattle.scene_model.specs.declared.scene.Scene.{Scene}
-use Rattle.scene_model.specs.declared.scene.Node.{Node}
 use Rattle.scene_model.specs.declared.scene.Prop.{Prop}
-use Rattle.scene_model.specs.declared.scene.SyncDef.{SyncDef}
 use Rattle.scene_model.specs.Lookup.{prop_names}
-use Rattle.scene_model.specs.Syncs.{Syncer, change_props, syncer_with}
+use Rattle.scene_model.specs.Syncs.{Syncer, change_props}
 use Rattle.scene_model.specs.Valid.{has_twice}
-use Rattle.scene_model.proofs.TextLaws.{text_eq-same, text_eq-sym, text_eq-true}
-use Rattle.peer_model.specs.Heard.{Who}
+use Rattle.scene_model.proofs.TextLaws.{text_eq-same, text_eq-sym}
 use Rattle.peer_model.specs.Updates.{Live, assign, assign_all, live_syncers, masked, tell_node}
-use Rattle.peer_model.specs.Faults.{delta_fault}
 use Rattle.headless_tree.specs.Lists.{change_first}
 use Rattle.headless_tree.specs.Nodes.{is_row_of, is_spawned, with_value}
 use Rattle.peer_laws.specs.Facts.{paths_of, rows_under}
-use Rattle.peer_laws.proofs.Once.{change_if, change_once}
-use Rattle.peer_laws.proofs.TreeTells.{meant_by, node_path, nodes_told, told_node}
+use Rattle.peer_laws.proofs.Once.{change_once}
+use Rattle.peer_laws.proofs.TreeTells.{told_node}
 use Rattle.world_laws.proofs.Properties.{assign_names}
 use Rattle.delta_props.specs.Taking.{put_prop, put_props}
-use Rattle.peer_steps.proofs.Meanings.{aim}
-use Rattle.peer_steps.proofs.ViewIds.{Unshared}
 
 -- one element in the place of another
 

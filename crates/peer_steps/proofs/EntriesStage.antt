@@ -1,9 +1,9 @@
 -- Received entries one after the other: each leaves what the next needs.
-use Rattle.std.proofs.Common.{◌≡◌, ℕ, zero, suc, ◌+◌, ◌-◌, ◌≤◌, ◌<◌, ℤ, Bool, true, false, cond, not, ◌&&◌, ◌||◌, List, [], ◌∷◌, ◌++◌, refl, sym, ap, ap₂, ◌∙◌, subst, map, filter, nat_eq, nat_le, arith, is_some, Option, Some, None}
-use Rattle.std.specs.Prelude.{find, flat_map, if◌then◌else◌, is_none, option_and_then, option_map, position, slice_get, zip, Result, Ok, Err}
+use Rattle.std.proofs.Common.{◌≡◌, ℕ, zero, suc, ◌-◌, ℤ, Bool, true, false, cond, not, ◌&&◌, List, [], ◌∷◌, ◌++◌, refl, sym, ap, ap₂, ◌∙◌, subst, map, nat_eq, arith, is_some, Option, Some, None}
+use Rattle.std.specs.Prelude.{find, if◌then◌else◌, is_none, option_and_then, option_map, position, slice_get, zip, Ok}
 use Rattle.std.specs.List.{slice_set, AllByRecursion}
 use Rattle.std.specs.Ordering.{int_eq}
-use Rattle.std.proofs.lemmas.Bool.{and_parts, and_from, leb-false, leb-true, true≢false}
+use Rattle.std.proofs.lemmas.Bool.{and_parts, and_from, leb-false, leb-true}
 use Rattle.gd_variant.specs.Words.{first_of, has_nat, some_is, text_eq, when}
 use Rattle.gd_variant.specs.declared.message.DeltaEntry.{DeltaEntry}
 use Rattle.scene_model.specs.declared.scene.Scene.{Scene}
@@ -14,13 +14,12 @@ use Rattle.scene_model.specs.declared.outcome.Fault.TheVariants as fault
 use Rattle.scene_model.specs.Lookup.{fixed_node, fixed_node_at, prop_names, sync_of}
 use Rattle.scene_model.specs.Syncs.{Syncer, change_props, fixed_bit, row_syncers, sync_id, syncer_with}
 use Rattle.scene_model.specs.Valid.{IsValidScene, auth_wrong, has_twice, no_target, node_no_prop}
-use Rattle.scene_model.proofs.ListLaws.{any_ext}
 use Rattle.scene_model.proofs.TextLaws.{text_eq-sym, text_eq-true}
 use Rattle.peer_model.specs.Heard.{Who}
 use Rattle.peer_model.specs.Rows.{syncs_at}
 use Rattle.peer_model.specs.Updates.{Live, assign_all, live_syncers, masked, replica_syncers, tell_node}
 use Rattle.peer_model.specs.Faults.{bad_mask, delta_fault, entry_id_faults, fixed_sync_node, is_fixed_id, wrong_delta}
-use Rattle.headless_tree.specs.Nodes.{TreeOf, is_row_of, is_spawned}
+use Rattle.headless_tree.specs.Nodes.{is_row_of, is_spawned}
 use Rattle.headless_tree.specs.Numbers.{has_number}
 use Rattle.headless_tree.proofs.Numbered.{all_at}
 use Rattle.headless_tree.proofs.Places.{found_at, first_is, not_found}
@@ -30,7 +29,7 @@ use Rattle.world_laws.proofs.Properties.{sync_right, syncs_right, told_names}
 use Rattle.sight_laws.proofs.Firsts.{IsOwned, served}
 use Rattle.delta_props.specs.declared.meaning.Meant.{Meant}
 use Rattle.delta_props.specs.declared.meaning.SyncAt.TheVariants.{Fixed, Row}
-use Rattle.delta_props.specs.Taking.{def_at, delta_judged, delta_taken, entry_put, fixed_meant, meant, meant_judged, nodes_taken, put_props, row_meant, row_placed, row_sync, target_of}
+use Rattle.delta_props.specs.Taking.{def_at, delta_judged, entry_put, fixed_meant, meant, meant_judged, nodes_taken, row_meant, row_placed, target_of}
 use Rattle.peer_steps.specs.Steps.{entries_put}
 use Rattle.peer_steps.proofs.Meanings.{aim, aimed, found_number, placed_has, high_meant, low_meant, row_at, row_meant_is}
 use Rattle.peer_steps.proofs.ViewIds.{Unshared, map_unshared, numbers, tell_numbers}
@@ -225,7 +224,7 @@ mapped_paths : (f : Live → Live) → ((n : Live) → (f n).path ≡ n.path) �
 mapped_paths f same [] = refl
 mapped_paths f same (n ∷ ns) = ap₂ (λ p ps. p ∷ ps) (same n) (mapped_paths f same ns)
 
-pub stage_after : (s : Scene) (c : ℤ) (o : Option Syncer) (t : DeltaEntry) (nodes : List Live) → Stage s c nodes → Stage s c (map (told_node c o t) nodes)
+stage_after : (s : Scene) (c : ℤ) (o : Option Syncer) (t : DeltaEntry) (nodes : List Live) → Stage s c nodes → Stage s c (map (told_node c o t) nodes)
 stage_after s c o t nodes stage = record {
   apart = ap has_twice (mapped_paths (told_node c o t) (node_path c o t) nodes) ∙ stage.apart;
   unshared = subst Unshared (sym (rows_told c o t nodes)) (map_unshared (tell_node o t) (tell_numbers o t) (rows_under c nodes) stage.unshared);

@@ -1,5 +1,5 @@
 -- A frame: what is answered is what the definitions give, and what is kept then stands for the events with it.
-use Rattle.std.proofs.Common.{◌≡◌, ℕ, ℤ, Bool, true, false, ◌&&◌, ◌||◌, List, [], ◌∷◌, ◌++◌, refl, sym, ap, ap₂, ◌∙◌, subst, map, filter, Option, Some, None}
+use Rattle.std.proofs.Common.{◌≡◌, ℤ, Bool, true, false, ◌||◌, List, [], ◌∷◌, ◌++◌, refl, sym, ap, ap₂, ◌∙◌, subst, map, filter, Some}
 use Rattle.std.specs.Prelude.{flat_map, int_lt, option_map}
 use Rattle.std.specs.List.{list_all, AllByRecursion}
 use Rattle.std.specs.Ordering.{int_eq}
@@ -7,22 +7,18 @@ use Rattle.std.proofs.lemmas.Bool.{and_parts}
 use Rattle.std.proofs.lemmas.List.{map-append}
 use Rattle.gd_variant.specs.Words.{has_int}
 use Rattle.gd_variant.specs.declared.message.DeltaEntry.{DeltaEntry}
-use Rattle.scene_model.specs.declared.spawn.SyncRef.{SyncRef}
 use Rattle.scene_model.specs.declared.event.Event.{Event}
 use Rattle.scene_model.specs.declared.event.Event.TheVariants.{Op}
 use Rattle.scene_model.specs.declared.event.Op.TheVariants.{Frame}
-use Rattle.scene_model.specs.declared.outcome.Out.{Out}
-use Rattle.scene_model.specs.Nodes.{Live}
 use Rattle.scene_model.specs.Syncs.{Syncer}
 use Rattle.peer_model.specs.Heard.{Who, Heard, does}
-use Rattle.peer_model.specs.Peers.{is_up, peers_up}
+use Rattle.peer_model.specs.Peers.{peers_up}
 use Rattle.peer_model.specs.Updates.{Tell}
 use Rattle.peer_model.specs.View.{tree_of}
 use Rattle.peer_model.specs.Visible.{own_syncers, visible_to}
 use Rattle.peer_model.specs.Answer.{reliable, update_packet}
 use Rattle.peer_model.specs.Bytes.{PacketForm, accepted_events, out_of}
 use Rattle.peer_laws.specs.Built.{Accepts}
-use Rattle.peer_laws.specs.Facts.{Facts}
 use Rattle.peer_laws.proofs.Each.{all_has}
 use Rattle.peer_laws.proofs.FactsOf.{facts}
 use Rattle.peer_laws.proofs.Numbers.{int_comm, int_same, lt_apart}
@@ -46,7 +42,7 @@ use Rattle.peer_steps.specs.Rows.{kept_row}
 use Rattle.peer_steps.specs.Kept.{Kept}
 use Rattle.peer_steps.specs.Stands.{HasParts, StandsFor}
 use Rattle.peer_steps.specs.Tellings.{syncs_seen}
-use Rattle.peer_steps.specs.Steps.{done_with, entries_to, frame_taken, frame_told, sent_to}
+use Rattle.peer_steps.specs.Steps.{done_with, entries_to, frame_taken, frame_told}
 use Rattle.peer_steps.proofs.Accepted.{Right, done_right, done_sends}
 use Rattle.peer_steps.proofs.Packets.{all_direct, is_direct, parcel_is}
 use Rattle.peer_steps.proofs.ToldParts.{refs_are}

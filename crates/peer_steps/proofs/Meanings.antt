@@ -1,16 +1,16 @@
 -- Which synchronizer of a peer an id means, among the nodes of the tree and among the rows of the peer.
-use Rattle.std.proofs.Common.{◌≡◌, ℕ, zero, suc, ◌+◌, ◌-◌, ◌≤◌, ◌<◌, ℤ, Bool, true, false, cond, not, ◌&&◌, ◌||◌, List, [], ◌∷◌, ◌++◌, refl, sym, ap, ap₂, ◌∙◌, subst, map, filter, nat_eq, nat_le, arith, is_some, Option, Some, None}
-use Rattle.std.specs.Prelude.{find, filter_map, flat_map, is_none, option_and_then, option_map, position, slice_get, zip}
+use Rattle.std.proofs.Common.{◌≡◌, ℕ, zero, suc, ◌+◌, ◌<◌, ℤ, Bool, true, false, cond, not, ◌&&◌, ◌||◌, List, [], ◌∷◌, ◌++◌, refl, sym, ap, ◌∙◌, map, nat_eq, arith, is_some, Option, Some, None}
+use Rattle.std.specs.Prelude.{find, filter_map, flat_map, option_and_then, option_map, position, slice_get, zip}
 use Rattle.std.specs.List.{list_any, cons_option, position_or_len, AllByRecursion}
 use Rattle.std.specs.Ordering.{int_eq}
-use Rattle.std.proofs.lemmas.Bool.{or_from, or_parts, eqb-true, eq-eqb, ne_eqb, leb-true, le-leb, true≢false}
+use Rattle.std.proofs.lemmas.Bool.{or_from, or_parts, eqb-true, eq-eqb, ne_eqb, true≢false}
 use Rattle.gd_variant.specs.Words.{has_nat, numbered}
 use Rattle.scene_model.specs.declared.scene.Scene.{Scene}
 use Rattle.scene_model.specs.declared.scene.Node.{Node}
 use Rattle.scene_model.specs.declared.scene.SyncDef.{SyncDef}
 use Rattle.scene_model.specs.Lookup.{sync_of}
 use Rattle.scene_model.specs.Nodes.{Live}
-use Rattle.scene_model.specs.Syncs.{Syncer, fixed_bit, fixed_syncer, fixed_syncers, row_syncer, row_syncers, sync_id, syncer_with}
+use Rattle.scene_model.specs.Syncs.{Syncer, fixed_bit, fixed_syncer, fixed_syncers, row_syncer, sync_id, syncer_with}
 use Rattle.peer_model.specs.Rows.{syncs_at}
 use Rattle.peer_model.specs.Updates.{live_syncers, replica_syncers}
 use Rattle.headless_tree.specs.Nodes.{is_row_of}

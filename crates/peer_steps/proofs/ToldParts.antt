@@ -3,17 +3,17 @@ use Rattle.std.proofs.Common.{◌≡◌, ℕ, ◌+◌, ℤ, Bool, true, false, c
 use Rattle.std.specs.Prelude.{flat_map, zip, find, option_map, if◌then◌else◌}
 use Rattle.std.specs.List.{list_all, AllByRecursion, Contains}
 use Rattle.std.specs.Ordering.{int_eq}
-use Rattle.std.proofs.lemmas.Bool.{and_parts, or_parts, true≢false}
+use Rattle.std.proofs.lemmas.Bool.{and_parts, true≢false}
 use Rattle.std.proofs.lemmas.List.{map-append}
 use Rattle.std.proofs.lemmas.List.Elements.{filter-append}
-use Rattle.gd_variant.specs.Words.{first_some, has_int, has_nat, has_text, numbered, or_else, some_is, text_eq}
+use Rattle.gd_variant.specs.Words.{first_some, has_int, has_text, numbered, or_else, some_is, text_eq}
 use Rattle.gd_variant.specs.declared.value.Variant.{Variant}
 use Rattle.gd_variant.specs.declared.value.Variant.TheVariants.{Nil}
 use Rattle.scene_model.specs.declared.scene.Prop.{Prop}
 use Rattle.scene_model.specs.declared.scene.SyncDef.{SyncDef}
 use Rattle.scene_model.specs.declared.event.SpawnOp.{SpawnOp}
 use Rattle.scene_model.specs.declared.event.Op.TheVariants.{Despawn}
-use Rattle.scene_model.specs.Lookup.{fixed_paths, has_prop, prop_names, scene_at, value_in}
+use Rattle.scene_model.specs.Lookup.{fixed_paths, has_prop, scene_at, value_in}
 use Rattle.scene_model.specs.Nodes.{Live}
 use Rattle.scene_model.specs.Syncs.{Syncer, change_props, fixed_syncers, row_syncer}
 use Rattle.scene_model.specs.Valid.{IsValidScene}
@@ -35,7 +35,7 @@ use Rattle.peer_laws.proofs.OwnValues.{own_row_there, value_there}
 use Rattle.world_laws.specs.Done.{AllDone}
 use Rattle.world_laws.proofs.Properties.{assign_names}
 use Rattle.sight_laws.specs.Sights.{FixedSight, fixed_sight, is_visible, row_sight, sight_of}
-use Rattle.sight_laws.specs.Told.{row_first_value, row_first_told}
+use Rattle.sight_laws.specs.Told.{row_first_value}
 use Rattle.sight_laws.specs.Seen.{SightSet, is_still, set_in}
 use Rattle.sight_laws.proofs.Events.{up_alone, down_alone, set_alone, spawn_alone, up_same}
 use Rattle.sight_laws.proofs.Firsts.{assigned_there}
@@ -127,7 +127,7 @@ pub shown_first : (who : Who) (es : List Heard) (e : Heard) (v : IsValidScene wh
 shown_first who es e v all plain facts b r y up seen mine new = values_are who (e ∷ es) facts r (own_of who (e ∷ es) b r seen) (change_props y.def) (first_row who es e b r y v all plain up seen mine new)
 
 -- rows that are shown to a new peer
-pub rows_are : (who : Who) (nodes : List Live) (b : ℤ) (rs : List OwnRow) (t : ToldValues) → rows_shown who.scene nodes b (map (kept_row who) rs) t ≡ rows_told who b (λ r. shown_told who.scene nodes (kept_row who r)) rs t
+rows_are : (who : Who) (nodes : List Live) (b : ℤ) (rs : List OwnRow) (t : ToldValues) → rows_shown who.scene nodes b (map (kept_row who) rs) t ≡ rows_told who b (λ r. shown_told who.scene nodes (kept_row who r)) rs t
 rows_are who nodes b [] t = refl
 rows_are who nodes b (r ∷ rs) t = rows_are who nodes b rs (told_all b (shown_told who.scene nodes (kept_row who r)) (row_syncers_of who r) t)
 
@@ -219,7 +219,7 @@ has_filtered p b (c ∷ bs) = step (int_eq b c) refl (p c) refl (has_filtered p 
     step false e t f more = other (p c) e ∙ more ∙ sym (ap (λ x. p b && (x || has_int b bs)) e)
 
 -- a row with who sees it
-pub shown_has : (who : Who) (es : List Heard) (b : ℤ) (r : OwnRow) → is_up es b ≡ true → has_int b (row_sight who es r).shown ≡ sees who es b r
+shown_has : (who : Who) (es : List Heard) (b : ℤ) (r : OwnRow) → is_up es b ≡ true → has_int b (row_sight who es r).shown ≡ sees who es b r
 shown_has who es b r up = has_filtered (λ c. sees who es c r) b (peers_up es) ∙ ap (λ x. sees who es b r && x) (has_up es b ∙ up) ∙ and_true (sees who es b r)
   where
     and_true : (x : Bool) → (x && true) ≡ x

@@ -1,5 +1,5 @@
 -- No two rows of another peer share a number.
-use Rattle.std.proofs.Common.{◌≡◌, ℕ, ℤ, Bool, true, false, cond, not, ◌||◌, List, [], ◌∷◌, ◌++◌, refl, sym, ap, ap₂, ◌∙◌, subst, map, filter, nat_eq, Option, Some, None, Ok, Err}
+use Rattle.std.proofs.Common.{◌≡◌, ℕ, ℤ, Bool, true, false, cond, not, ◌||◌, List, [], ◌∷◌, ◌++◌, refl, sym, ap, ◌∙◌, subst, map, filter, nat_eq, Option, Some, None, Ok, Err}
 use Rattle.std.specs.Prelude.{if◌then◌else◌}
 use Rattle.std.specs.List.{AllByRecursion}
 use Rattle.std.specs.Ordering.{int_eq}
@@ -20,12 +20,12 @@ use Rattle.peer_model.specs.Updates.{Tell, Live, Replica, applied, apply_update,
 use Rattle.peer_model.specs.View.{updates_from, updates_in, view}
 use Rattle.peer_model.specs.Faults.{first_known, known_ids}
 use Rattle.peer_model.proofs.Shown.{joined_updates}
-use Rattle.peer_laws.specs.Built.{Accepts, AllAccepted}
+use Rattle.peer_laws.specs.Built.{AllAccepted}
 use Rattle.peer_laws.proofs.Each.{every_kept}
 use Rattle.peer_laws.proofs.Numbers.{int_is}
 use Rattle.peer_laws.proofs.Replica.{in_view}
 use Rattle.peer_laws.proofs.Tests.{never}
-use Rattle.peer_laws.proofs.Views.{applied_hide, applied_show, got, show_plain, shown_by, spawn_is_welcome, updates_got, updates_of_others, welcome_is_up}
+use Rattle.peer_laws.proofs.Views.{applied_hide, applied_show, got, show_plain, spawn_is_welcome, updates_got, updates_of_others, welcome_is_up}
 
 -- rows that share no number
 

@@ -1,5 +1,5 @@
 -- What each peer was told of on-change properties: what links, spawns, despawns, settings of visibility and frames make of it.
-use Rattle.std.specs.Prelude.{ℕ, ◌+◌, ℤ, Bool, true, false, List, [], ◌∷◌, ◌++◌, map, filter, Option, Some, None, option_map, option_and_then, if◌then◌else◌}
+use Rattle.std.specs.Prelude.{ℕ, ◌+◌, ℤ, List, [], ◌∷◌, ◌++◌, map, filter, Option, Some, None, option_map, option_and_then, if◌then◌else◌}
 use Rattle.gd_variant.specs.Words.{or_else, some_is, first_some, has_text, text_eq, has_int}
 use Rattle.gd_variant.specs.declared.value.Variant.{Variant}
 use Rattle.gd_variant.specs.declared.value.Variant.TheVariants.{Nil}

@@ -65,10 +65,6 @@ was_not_seen who es b r up has h = step (sees who es b r) refl
     step true k = absurd (true≢false (sym (was_seen who es b r up has k) ∙ h))
     step false k = k
 
--- a peer that isn't up sees nothing
-none_seen : (who : Who) (es : List Heard) (b : ℤ) (r : OwnRow) → is_up es b ≡ false → has_nat r.num (numbers_of (visible_rows who es b)) ≡ false
-none_seen who es b r down = ap (λ t. has_nat r.num (numbers_of (if t then filter (sees who es b) (own_rows who es) else []))) down
-
 -- the own rows are own rows
 themselves : (who : Who) (es : List Heard) → AllByRecursion (Contains (own_rows who es)) (own_rows who es)
 themselves who es = recursion_from_All (Contains (own_rows who es)) (own_rows who es) (All-contains_itself (own_rows who es))
@@ -96,7 +92,7 @@ module _ (who : Who) (es : List Heard) (e : Heard) (v : IsValidScene who.scene) 
     none_first b up down = absurd (true≢false (sym (up_before b up) ∙ down))
 
     -- an event that leaves the rows too, and who sees them
-    pub puts_nothing : (t : ToldValues) → HasOnce t → own_rows who now ≡ own_rows who es → ((r : OwnRow) → Contains (own_rows who es) r → sets_at r.path e ≡ false) → Puts who es e t t
+    puts_nothing : (t : ToldValues) → HasOnce t → own_rows who now ≡ own_rows who es → ((r : OwnRow) → Contains (own_rows who es) r → sets_at r.path e ≡ false) → Puts who es e t t
     puts_nothing t once rows unset = record {
       once = once;
       fixed_stays = λ b y up was has. refl;

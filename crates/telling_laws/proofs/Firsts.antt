@@ -33,7 +33,7 @@ use Rattle.telling_laws.proofs.Nexts.{seen_is}
 
 -- values that are there
 
-pub somes : (f : List ℕ → Option Variant) (ps : List (List ℕ)) → list_all (λ p. is_some (f p)) ps ≡ true → map Some (map (λ p. or_else (f p) Nil) ps) ≡ map f ps
+somes : (f : List ℕ → Option Variant) (ps : List (List ℕ)) → list_all (λ p. is_some (f p)) ps ≡ true → map Some (map (λ p. or_else (f p) Nil) ps) ≡ map f ps
 somes f [] h = refl
 somes f (p ∷ ps) h =
     let parts = and_parts (is_some (f p)) (list_all (λ q. is_some (f q)) ps) h in
@@ -44,7 +44,7 @@ somes f (p ∷ ps) h =
     one (Some v) k = refl
 
 -- the same values of the same properties are there
-pub same_there : (f g : List ℕ → Option Variant) (ps : List (List ℕ)) → map f ps ≡ map g ps → list_all (λ p. is_some (f p)) ps ≡ true → list_all (λ p. is_some (g p)) ps ≡ true
+same_there : (f g : List ℕ → Option Variant) (ps : List (List ℕ)) → map f ps ≡ map g ps → list_all (λ p. is_some (f p)) ps ≡ true → list_all (λ p. is_some (g p)) ps ≡ true
 same_there f g ps same h = sym (list_all-map is_some g ps) ∙ ap (list_all is_some) (sym same) ∙ list_all-map is_some f ps ∙ h
 
 -- what a peer that is up was told of each synchronizer that it may know

@@ -47,18 +47,18 @@ module _ (who : Who) (es : List Heard) (nodes : List Live) (all : AllDone who es
   abbrev pub frames : List ℤ → ToldValues → ToldValues
   frames bs t = told_frames who.scene nodes (λ b. map sync_ref (filter (visible_to who es b) (own_syncers who es))) bs t
 
-  pub frames_once : (bs : List ℤ) (t : ToldValues) → HasOnce t → HasOnce (frames bs t)
+  frames_once : (bs : List ℤ) (t : ToldValues) → HasOnce t → HasOnce (frames bs t)
   frames_once [] t h = h
   frames_once (b ∷ bs) t h = frames_once bs (collected b who.scene nodes (map sync_ref (seen b)) t).1 (collected_once who es nodes b (map sync_ref (seen b)) t h)
 
-  pub frames_peer : (c : ℤ) (i : ℕ) (bs : List ℤ) (t : ToldValues) → has_int c bs ≡ false → told_of c i (frames bs t) ≡ told_of c i t
+  frames_peer : (c : ℤ) (i : ℕ) (bs : List ℤ) (t : ToldValues) → has_int c bs ≡ false → told_of c i (frames bs t) ≡ told_of c i t
   frames_peer c i [] t h = refl
   frames_peer c i (b ∷ bs) t h =
       let parts = or_parts (int_eq c b) (has_int c bs) h in
       frames_peer c i bs (collected b who.scene nodes (map sync_ref (seen b)) t).1 parts.1 ∙ collected_peer who es nodes b c i (map sync_ref (seen b)) t parts.0
 
   -- what a peer was told of a synchronizer that it may not see stays
-  pub frames_unseen : (b : ℤ) (i : ℕ) (bs : List ℤ) (t : ToldValues) → HasNoId i (seen b) → told_of b i (frames bs t) ≡ told_of b i t
+  frames_unseen : (b : ℤ) (i : ℕ) (bs : List ℤ) (t : ToldValues) → HasNoId i (seen b) → told_of b i (frames bs t) ≡ told_of b i t
   frames_unseen b i [] t h = refl
   frames_unseen b i (c ∷ bs) t h = frames_unseen b i bs (collected c who.scene nodes (map sync_ref (seen c)) t).1 h ∙ step (int_eq b c) refl
     where
@@ -70,7 +70,7 @@ module _ (who : Who) (es : List Heard) (nodes : List Live) (all : AllDone who es
   seen_serve b = every_kept (Serves who es nodes) (visible_to who es b) (own_syncers who es) serves
 
   -- each peer was told the present values of those that it may see
-  pub frames_seen : (bs : List ℤ) (t : ToldValues) → is_rising bs ≡ true → ((b : ℤ) → has_int b bs ≡ true → AllByRecursion (Tells who es t b) (seen b)) → (b : ℤ) → has_int b bs ≡ true
+  frames_seen : (bs : List ℤ) (t : ToldValues) → is_rising bs ≡ true → ((b : ℤ) → has_int b bs ≡ true → AllByRecursion (Tells who es t b) (seen b)) → (b : ℤ) → has_int b bs ≡ true
       → AllByRecursion (λ (y : Syncer). told_of b y.id (frames bs t) ≡ Some (map (own_value who es y.node) (change_props y.def))) (seen b)
   frames_seen [] t r tells b has = absurd (cc has)
   frames_seen (c ∷ bs) t r tells b has = step (int_eq b c) refl has (λ k. frames_seen bs next parts.1 later b k)

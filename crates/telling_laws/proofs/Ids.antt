@@ -72,7 +72,7 @@ pub fixed_member : (who : Who) (es : List Heard) (y : Syncer) → Contains (fixe
 fixed_member who es y has = of_member (Contains (own_syncers who es)) (fixed_syncers who.scene who.id) y (every_left (Contains (own_syncers who es)) (fixed_syncers who.scene who.id) (flat_map (row_syncers_of who) (own_rows who es)) (own_themselves who es)) has
 
 -- what is true of all own synchronizers is true of those of each row
-pub rows_every : (who : Who) (es : List Heard) (P : Syncer → Type 0) → AllByRecursion P (own_syncers who es) → AllByRecursion (λ r. AllByRecursion P (row_syncers_of who r)) (own_rows who es)
+rows_every : (who : Who) (es : List Heard) (P : Syncer → Type 0) → AllByRecursion P (own_syncers who es) → AllByRecursion (λ r. AllByRecursion P (row_syncers_of who r)) (own_rows who es)
 rows_every who es P h = flat_every P (row_syncers_of who) (own_rows who es) (every_right P (fixed_syncers who.scene who.id) (flat_map (row_syncers_of who) (own_rows who es)) h)
 
 pub row_member : (who : Who) (es : List Heard) (r : OwnRow) (y : Syncer) → Contains (own_rows who es) r → Contains (row_syncers_of who r) y → Contains (own_syncers who es) y

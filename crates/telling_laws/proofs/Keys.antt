@@ -24,7 +24,7 @@ key_is b id k h =
     let parts = and_parts (int_eq b k.0) (nat_eq id k.1) h in
     ap₂ (λ c i. (c, i)) (int_is b k.0 parts.0) (eqb-true id k.1 parts.1)
 
-pub key_same : (b : ℤ) (id : ℕ) → is_key b id (b, id) ≡ true
+key_same : (b : ℤ) (id : ℕ) → is_key b id (b, id) ≡ true
 key_same b id = and_from (int_eq b b) (nat_eq id id) (int_same b) (eq-eqb id id refl)
 
 key_comm : (x y : ℤ × ℕ) → same_key x y ≡ same_key y x

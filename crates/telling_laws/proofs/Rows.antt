@@ -32,7 +32,7 @@ unlike_first key x (y ∷ ys) h =
     let more = unlike_first key x ys parts.1 in
     ((λ e. absurd (true≢false (sym e ∙ parts.0)), more.0), (λ e. absurd (true≢false (sym e ∙ text_eq-sym (key y) (key x) ∙ parts.0)), more.1))
 
-pub same_by_key : {X : Type 0} (key : X → List ℕ) (xs : List X) → has_twice (map key xs) ≡ false → AllByRecursion (λ x. AllByRecursion (IsSame key x) xs) xs
+same_by_key : {X : Type 0} (key : X → List ℕ) (xs : List X) → has_twice (map key xs) ≡ false → AllByRecursion (λ x. AllByRecursion (IsSame key x) xs) xs
 same_by_key key [] h = tt
 same_by_key key (x ∷ ys) h =
     let parts = or_parts (has_text (key x) (map key ys)) (has_twice (map key ys)) h in
