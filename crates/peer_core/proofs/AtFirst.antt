@@ -1,5 +1,5 @@
 -- A new peer stands for no events.
-use Rattle.std.proofs.Common.{◌≡◌, ℕ, ℤ, Bool, false, List, [], sym, ap₂, ◌∙◌, subst}
+use Rattle.std.proofs.Common.{◌≡◌, ℤ, false, [], sym, ap₂, ◌∙◌, subst}
 use Rattle.scene_model.specs.declared.scene.Scene.{Scene}
 use Rattle.scene_model.specs.Valid.{IsValidScene}
 use Rattle.headless_tree.specs.Nodes.{TreeOf}

@@ -34,16 +34,15 @@ use Rattle.peer_steps.specs.Calls.{shown_to_each}
 use Rattle.peer_steps.specs.Fits.{Fits}
 use Rattle.peer_steps.specs.Judged.{lacks_server, link_judged, set_judged, set_nodes, despawn_judged, sight_judged}
 use Rattle.peer_steps.specs.Kept.{Kept, kept_tree, new_peer}
-use Rattle.peer_steps.specs.Stands.{StandsFor}
 use Rattle.peer_steps.specs.Peers.{Peers, no_peers, comes_judged, peers_after, peer_comes, peer_goes, without_peer}
 use Rattle.peer_steps.specs.Sites.{who_at, own_made}
 use Rattle.peer_steps.specs.Sound.{is_sound_spawn, is_sound_read, is_sound_message}
-use Rattle.peer_steps.specs.Steps.{Taken, unchanged, done_with, row_packet, sent_to, up_answer, up_taken, link_taken, track_came, told_came, spawn_answer, spawn_told, spawn_taken, shows_of, sight_told, row_told as told_row, frame_told, frame_by, frame_taken, entries_to, with_packets, entries_taken, entries_put, entries_judged, despawn_answer, despawn_taken, answer_by, shifts, row_shifts, sight_shifts, sight_taken, row_read, message_taken, linked_taken, read_taken}
-use Rattle.peer_steps.specs.Track.{Track, Spawned, Despawned, Sighted, SightChange, first_track, track_after, own_spawn, shown_spawn, hidden_row, tree_without, track_up, track_down, seen_by, shown_of, number_at, row_with, is_row, despawned_by, own_despawn, sighted_by, sight_at, own_sighted}
+use Rattle.peer_steps.specs.Steps.{Taken, unchanged, done_with, row_packet, sent_to, up_answer, up_taken, link_taken, track_came, told_came, spawn_answer, spawn_told, spawn_taken, shows_of, sight_told, row_told as told_row, frame_told, frame_by, frame_taken, entries_to, with_packets, despawn_answer, despawn_taken, answer_by, shifts, row_shifts, sight_shifts, sight_taken, row_read, message_taken, linked_taken, read_taken}
+use Rattle.peer_steps.specs.Track.{Track, Spawned, Despawned, Sighted, SightChange, first_track, track_after, own_spawn, shown_spawn, hidden_row, tree_without, track_down, seen_by, shown_of, number_at, row_with, is_row, despawned_by, own_despawn, sighted_by, sight_at, own_sighted}
 use Rattle.peer_steps.proofs.Fitting.{fits_start, fits_without, fits_hidden, fits_despawn, fits_up, fits_down, fits_set, fits_spawn, fits_shown}
 use Rattle.delta_props.specs.Telling.{ToldValues}
 use Rattle.spawn_track.specs.Judging.{IsDespawned}
-use Rattle.spawn_track.specs.Numbers.{IsTracked, row_at, row_number_of}
+use Rattle.spawn_track.specs.Numbers.{row_at, row_number_of}
 use Rattle.spawn_track.specs.declared.track.Gone.{Gone}
 use Rattle.spawn_track.proofs.Tracked.{tracked_start, tracked_up, tracked_down, tracked_set, tracked_despawn, tracked_spawn}
 use Rattle.peer_steps.specs.Tellings.{hidden_from_all, ids_with, frame_to}

@@ -1,45 +1,34 @@
 -- The entries of a frame can be written, and received entries leave the parts of a peer right.
-use Rattle.std.proofs.Common.{◌≡◌, ◌+◌, ◌*◌, ◌/◌, ◌%◌, ◌≤◌, ℕ, zero, suc, ℤ, Bool, true, false, cond, not, ◌&&◌, ◌||◌, List, [], ◌∷◌, refl, sym, ap, ap₂, subst, ◌∙◌, length, map, nat_eq, nat_le, Option, Some, None, arith, length-append}
-use Rattle.std.specs.Prelude.{slice_get, find, option_map, option_and_then, zip, Result, Ok, Err, if◌then◌else◌}
-use Rattle.std.specs.List.{list_all, cons_option, slice_set}
-use Rattle.std.specs.Option.{option_map_or}
-use Rattle.std.proofs.lemmas.Bool.{and_parts, and_from, or_parts, le-leb, leb-true}
+use Rattle.std.proofs.Common.{◌≡◌, ◌/◌, ◌%◌, ◌≤◌, ℕ, suc, ℤ, Bool, true, false, cond, List, [], ◌∷◌, refl, sym, ap, ap₂, subst, ◌∙◌, length, map, nat_eq, nat_le, Option, Some, None, arith}
+use Rattle.std.specs.Prelude.{slice_get, find, option_map, option_and_then}
+use Rattle.std.specs.List.{list_all, cons_option}
+use Rattle.std.proofs.lemmas.Bool.{and_from, le-leb}
 use Rattle.std.proofs.lemmas.List.{length-map}
-use Rattle.gd_variant.specs.Sound.{is_sound}
-use Rattle.gd_variant.specs.Words.{text_eq, or_else, when, first_of}
-use Rattle.gd_variant.specs.declared.value.Variant.{Variant}
+use Rattle.gd_variant.specs.Words.{text_eq, or_else}
 use Rattle.gd_variant.specs.declared.value.Variant.TheVariants.{Nil}
 use Rattle.gd_variant.specs.declared.message.DeltaEntry.{DeltaEntry}
-use Rattle.gd_variant.specs.declared.message.Message.TheVariants.{Plain as plain_packet}
 use Rattle.scene_model.specs.declared.scene.Scene.{Scene}
 use Rattle.scene_model.specs.declared.scene.Prop.{Prop}
 use Rattle.scene_model.specs.declared.scene.SyncDef.{SyncDef}
 use Rattle.scene_model.specs.declared.spawn.SyncRef.{SyncRef}
 use Rattle.scene_model.specs.declared.outcome.Fault.{Fault}
-use Rattle.scene_model.specs.declared.outcome.Fault.TheVariants as fault
-use Rattle.scene_model.specs.Lookup.{fixed_node, sync_of, value_in}
+use Rattle.scene_model.specs.Lookup.{fixed_node, sync_of}
 use Rattle.scene_model.specs.Nodes.{Live, live_at}
 use Rattle.scene_model.specs.Syncs.{change_props}
 use Rattle.scene_model.specs.Valid.{IsValidScene}
-use Rattle.packet_form.specs.Packets.{IsEncodable}
 use Rattle.peer_model.specs.Rows.{syncs_at}
 use Rattle.peer_model.specs.Updates.{masked}
 use Rattle.peer_model.specs.Changes.{mask_of}
-use Rattle.peer_model.specs.Faults.{bad_mask, wrong_delta}
-use Rattle.peer_model.specs.View.{fits}
-use Rattle.headless_tree.specs.Nodes.{TreeOf, with_value}
-use Rattle.headless_tree.specs.Lists.{change_at, change_first}
-use Rattle.headless_tree.proofs.Numbered.{all_at}
+use Rattle.headless_tree.specs.Nodes.{TreeOf}
 use Rattle.peer_laws.proofs.Places.{all_found}
-use Rattle.peer_laws.proofs.Tests.{then_some, no_row, not_false}
-use Rattle.delta_props.specs.Telling.{ToldValues, value_of, told_by, told_one, told_sync, sync_by, sync_at, sync_named, fixed_sync, collected, untold, told_of, with_told}
-use Rattle.delta_props.specs.declared.meaning.Meant.{Meant}
-use Rattle.delta_props.specs.Taking.{def_at, meant, entry_judged, def_judged, meant_judged, put_prop, put_props, entry_put, nodes_taken, delta_taken}
+use Rattle.peer_laws.proofs.Tests.{then_some}
+use Rattle.delta_props.specs.Telling.{ToldValues, value_of, told_by, told_sync, sync_by, sync_at, sync_named, collected, untold, told_of, with_told}
+use Rattle.delta_props.specs.Taking.{delta_taken}
 use Rattle.delta_props.proofs.Few.{named_few}
 use Rattle.scene_model.specs.declared.outcome.Outcome.{Outcome}
 use Rattle.peer_steps.specs.Fits.{Fits}
 use Rattle.peer_steps.specs.Kept.{Kept, kept_tree}
-use Rattle.peer_steps.specs.Rights.{is_right_value, are_right, has_right_values, is_before}
+use Rattle.peer_steps.specs.Rights.{is_right_value, has_right_values}
 use Rattle.peer_steps.specs.Peers.{Peers}
 use Rattle.peer_steps.specs.Sound.{are_sound_entries}
 use Rattle.peer_steps.specs.Steps.{Taken, shown_answer, shown_taken, entries_judged, entries_put, entries_by, entries_taken}

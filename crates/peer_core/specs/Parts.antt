@@ -3,13 +3,11 @@ use Rattle.std.specs.Prelude.{ℕ, ℤ, Bool, ◌&&◌, List, [], ◌∷◌, ◌
 use Rattle.std.specs.List.{list_all}
 use Rattle.gd_variant.specs.Words.{or_else, some_is}
 use Rattle.gd_variant.specs.declared.message.DeltaEntry.{DeltaEntry}
-use Rattle.scene_model.specs.declared.scene.Scene.{Scene}
 use Rattle.scene_model.specs.declared.outcome.Out.{Out}
 use Rattle.scene_model.specs.declared.outcome.Outcome.{Outcome}
 use Rattle.scene_model.specs.declared.outcome.Outcome.TheVariants.{Refused}
 use Rattle.scene_model.specs.declared.outcome.Refusal.{Refusal}
 use Rattle.peer_model.specs.Bytes.{PacketForm}
-use Rattle.peer_model.specs.Updates.{Live}
 use Rattle.headless_tree.specs.Nodes.{TreeOf}
 use Rattle.peer_steps.specs.Peers.{Peers}
 use Rattle.peer_steps.specs.Track.{Track}
