@@ -11,7 +11,7 @@ use Rattle.peer_model.specs.Heard.{Heard}
 use Rattle.peer_model.specs.Peers.{peers_up}
 use Rattle.peer_model.specs.Rows.{own_rows}
 use Rattle.peer_model.specs.Updates.{Live, Replica, fixed_live, live_at}
-use Rattle.peer_model.specs.View.{view, own_live, own_values, values_seen, fixed_now, rows_of, authorities, report_of, row_of}
+use Rattle.peer_model.specs.View.{view, own_live, own_values, values_seen as fixed_values_seen, fixed_now, rows_of, authorities, report_of, row_of}
 use Rattle.peer_laws.proofs.Joined.{flat_each, map_each}
 use Rattle.peer_steps.specs.Kept.{Kept}
 use Rattle.peer_core.specs.Forms.{packet_form}
@@ -26,7 +26,7 @@ use Rattle.world_steps.specs.Stands.{IsPeer}
 use Rattle.world_steps.proofs.Runs.{events_are, heard_is}
 use Rattle.world_steps.proofs.Joins.{Run}
 use Rattle.world_steps.proofs.Happenings.{runs}
-use Rattle.world_steps.proofs.Pairs.{joined_parts, pair_of, whole_seen, prefix_seen, replica_seen}
+use Rattle.world_steps.proofs.Pairs.{joined_parts, pair_of, whole_seen, values_seen, prefix_seen, replica_seen}
 
 -- what is seen of each joined peer is its replica
 abbrev SeesReplicas : Scene → World → ℤ → Type 0
@@ -52,10 +52,10 @@ fixed_same s w b n sees = step (is_joined w n.auth b) refl
     gs = accepted_at packet_form s w b
 
     step : (c : Bool) → is_joined w n.auth b ≡ c
-        → record (fixed_live n) { values = if int_eq n.auth b then own_values (peer_of s b) gs n.path n.props else values_seen (peer_of s b) gs n }
+        → record (fixed_live n) { values = if int_eq n.auth b then own_values (peer_of s b) gs n.path n.props else fixed_values_seen (peer_of s b) gs n }
         ≡ record (fixed_live n) {
           values = if int_eq n.auth b then own_values (peer_of s b) gs n.path n.props
-              else if c then or_else (option_map (λ (m : Live). m.values) (live_at (replica packet_form s w n.auth b).fixed n.path)) n.props else values_seen (peer_of s b) gs n;
+              else if c then or_else (option_map (λ (m : Live). m.values) (live_at (replica packet_form s w n.auth b).fixed n.path)) n.props else fixed_values_seen (peer_of s b) gs n;
         }
     step true e = ap (λ (q : Replica). record (fixed_live n) {
       values = if int_eq n.auth b then own_values (peer_of s b) gs n.path n.props
@@ -94,5 +94,6 @@ replicas_settle s valid es h a b joined =
     record {
       prefix = prefix_seen s w a b valid r (pair_of s es a b valid h r joined);
       all_visible = whole_seen s w a b valid r (joined_parts w a b joined);
+      values = values_seen s w a b valid r (joined_parts w a b joined);
       told = world_report s es b valid h;
     }
