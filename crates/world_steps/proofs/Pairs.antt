@@ -24,7 +24,7 @@ use Rattle.peer_model.specs.Changes.{changes}
 use Rattle.peer_model.specs.Ticks.{widened}
 use Rattle.peer_model.specs.Visible.{sees, visible_rows}
 use Rattle.peer_model.specs.Rows.{own_rows}
-use Rattle.peer_model.specs.View.{view, updates_in, updates_from, reach, sampled_values}
+use Rattle.peer_model.specs.View.{view, updates_in, updates_from, reach, report_of, sampled_values}
 use Rattle.peer_model.specs.Answer.{decided}
 use Rattle.peer_model.specs.Bytes.{outcome_of}
 use Rattle.peer_laws.specs.Built.{Accepts, AllAccepted, is_row_packet}
@@ -49,9 +49,10 @@ use Rattle.channel_laws.specs.Channels.{AllHappened, delivered_at, reliable_in, 
 use Rattle.channel_laws.proofs.Arrivals.{arrivals_are_posted}
 use Rattle.channel_laws.proofs.Links.{channels, own_of, own_first}
 use Rattle.world_steps.specs.Pairs.{content_of, made_for, first_hop, loose_between, loose_posted, Pair}
-use Rattle.world_steps.specs.Framed.{IsFramed, HasValues}
+use Rattle.world_steps.specs.Framed.{IsFramed, HasValues, ReportsValues}
 use Rattle.world_steps.specs.Scripts.{Happened, PairsHold, NoneIsFault}
 use Rattle.world_steps.proofs.Framed.{framed_values}
+use Rattle.world_steps.proofs.Reported.{reports_values}
 use Rattle.world_steps.proofs.Links.{IsLink, told_parcel, told_parcels, none_taken}
 use Rattle.world_steps.proofs.Runs.{heard_at, own_if, is_own_entry, Core, answer_by, heard_is, history_is}
 use Rattle.world_steps.proofs.Joins.{Run}
@@ -371,13 +372,21 @@ whole_seen s w a b valid h j quiet =
 
 -- the values that are seen
 
-abbrev SeesValues : Scene → World → ℤ → ℤ → List Heard → List Heard → Type 0
-SeesValues s w a b here there = IsFramed (peer_of s a) here b → HasValues (peer_of s a) here b (view (peer_of s b) there a)
+-- A peer has each value of another that it may see: it sees it, and reports it.
+pub record KnowsValues (s : Scene) (a b : ℤ) (here there : List Heard) : Type 0 where
+  pub seen : HasValues (peer_of s a) here b (view (peer_of s b) there a)
+  pub reported : ReportsValues (peer_of s a) here b (report_of (peer_of s b) there)
 
-values_directly : (s : Scene) (w : World) (a b : ℤ) → IsValidScene s → Run s w → IsJoined w a b → is_direct a b ≡ true → is_delivered (w.way a b) ≡ true → SeesValues s w a b (heard_at w a) (heard_at w b)
-values_directly s w a b valid h j direct quiet =
+-- so it is after a frame since which nothing changed
+abbrev IfFramed : Scene → ℤ → ℤ → List Heard → List Heard → Type 0
+IfFramed s a b here there = IsFramed (peer_of s a) here b → KnowsValues s a b here there
+
+values_directly : (s : Scene) (w : World) (a b : ℤ) → IsValidScene s → Run s w → IsJoined w a b → is_direct a b ≡ true → is_delivered (w.way a b) ≡ true → IfFramed s a b (heard_at w a) (heard_at w b)
+values_directly s w a b valid h j direct quiet framed =
     let l = link_from a b j.apart direct in
-    framed_values s a b valid (heard_at w a) (heard_at w b) (built_done (peer_of s a) (heard_at w a) (h.core.accepted a)) (sender_up w a b h.members l j.first j.second) (all_got s w a b (h.core.links a b l) quiet)
+    let up = sender_up w a b h.members l j.first j.second in
+    let seen = framed_values s a b valid (heard_at w a) (heard_at w b) (built_done (peer_of s a) (heard_at w a) (h.core.accepted a)) up (all_got s w a b (h.core.links a b l) quiet) framed in
+    record { seen = seen; reported = reports_values (peer_of s a) (heard_at w a) (peer_of s b) (heard_at w b) valid (h.core.accepted b) a j.apart up seen }
 
 -- a peer that never was up wasn't up at a frame
 never_framed : (s : Scene) (a b : ℤ) (here : List Heard) → int_eq a server ≡ false → int_eq b server ≡ false → AllAccepted (peer_of s a) here → IsFramed (peer_of s a) here b → ⊥
@@ -388,13 +397,13 @@ never_framed s a b here first second all f =
     accepted_before [] k = k
     accepted_before (e ∷ later) k = accepted_before later k.1
 
-pub values_seen : (s : Scene) (w : World) (a b : ℤ) → IsValidScene s → Run s w → IsJoined w a b → is_quiet w a b ≡ true → SeesValues s w a b (accepted_at packet_form s w a) (accepted_at packet_form s w b)
-values_seen s w a b valid h j quiet =
-    subst (λ g. SeesValues s w a b g (accepted_at packet_form s w b)) (sym (heard_is s w h.core a)) (subst (SeesValues s w a b (heard_at w a)) (sym (heard_is s w h.core b)) (step (is_direct a b) refl))
+pub values_known : (s : Scene) (w : World) (a b : ℤ) → IsValidScene s → Run s w → IsJoined w a b → is_quiet w a b ≡ true → IfFramed s a b (accepted_at packet_form s w a) (accepted_at packet_form s w b)
+values_known s w a b valid h j quiet =
+    subst (λ g. IfFramed s a b g (accepted_at packet_form s w b)) (sym (heard_is s w h.core a)) (subst (IfFramed s a b (heard_at w a)) (sym (heard_is s w h.core b)) (step (is_direct a b) refl))
   where
-    step : (t : Bool) → is_direct a b ≡ t → SeesValues s w a b (heard_at w a) (heard_at w b)
+    step : (t : Bool) → is_direct a b ≡ t → IfFramed s a b (heard_at w a) (heard_at w b)
     step true direct = values_directly s w a b valid h j direct (sym (ap (λ t. if t then is_delivered (w.way a b) else is_delivered (w.way a server) && is_delivered (w.way server b)) direct) ∙ quiet)
-    step false clients = λ f. let ends = or_parts (int_eq a server) (int_eq b server) clients in absurd (never_framed s a b (heard_at w a) ends.0 ends.1 (h.core.accepted a) f)
+    step false clients = λ framed. let ends = or_parts (int_eq a server) (int_eq b server) clients in absurd (never_framed s a b (heard_at w a) ends.0 ends.1 (h.core.accepted a) framed)
 
 -- what is seen of a joined peer is what the delivered prefix of its changes makes
 pub prefix_seen : (s : Scene) (w : World) (a b : ℤ) → IsValidScene s → Run s w → Pair packet_form s w a b → view (peer_of s b) (accepted_at packet_form s w b) a ≡ told_replica packet_form s w a b

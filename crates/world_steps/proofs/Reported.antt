@@ -53,11 +53,11 @@ found_by_text key (x ∷ xs) h =
 -- what is found is what is known of each, and passes the test
 found_is : {X : Type 0} (P : X → Type 0) (test : X → Bool) (xs : List X) (x : X) → AllByRecursion P xs → find test xs ≡ Some x → P x × (test x ≡ true)
 found_is P test [] x h e = absurd (cc e)
-found_is P test (z ∷ zs) x h e = step (test z) refl e
+found_is P test (z ∷ zs) x h e = step (test z) refl e (λ k. found_is P test zs x h.1 k)
   where
-    step : (b : Bool) → test z ≡ b → cond b (Some z) (find test zs) ≡ Some x → P x × (test x ≡ true)
-    step true f k = let same : z ≡ x = cc in (subst P same h.0, sym (ap test same) ∙ f)
-    step false f k = found_is P test zs x h.1 k
+    step : (b : Bool) → test z ≡ b → cond b (Some z) (find test zs) ≡ Some x → (find test zs ≡ Some x → P x × (test x ≡ true)) → P x × (test x ≡ true)
+    step true f k more = let same : z ≡ x = cc in (subst P same h.0, sym (ap test same) ∙ f)
+    step false f k more = more k
 
 -- a search of two lists
 found_in_both : {X : Type 0} (test : X → Bool) (xs ys : List X) (o : Option X) → find test xs ≡ o → find test (xs ++ ys) ≡ first_some o (find test ys)
