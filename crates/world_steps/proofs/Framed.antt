@@ -1,7 +1,7 @@
 -- What a peer was told at a frame stays all that is to be told, while nothing changes of it.
 use Rattle.std.proofs.Common.{◌≡◌, ℕ, ℤ, Bool, true, false, not, ◌||◌, List, [], ◌∷◌, ◌++◌, map, filter, refl, sym, ap, ap₂, ◌∙◌, subst, Option, Some, None}
 use Rattle.std.specs.Prelude.{flat_map, if◌then◌else◌}
-use Rattle.std.specs.List.{list_all, list_any, All, AllByRecursion, Contains}
+use Rattle.std.specs.List.{list_all, list_any, AllByRecursion, Contains}
 use Rattle.std.proofs.lemmas.List.Elements.{recursion_from_All}
 use Rattle.std.proofs.lemmas.Bool.{true≢false}
 use Rattle.gd_variant.specs.Words.{has_nat, some_is, or_else}
@@ -16,9 +16,9 @@ use Rattle.scene_model.proofs.ListLaws.{any-map}
 use Rattle.peer_model.specs.Heard.{Who, Heard, does}
 use Rattle.peer_model.specs.Peers.{is_up}
 use Rattle.peer_model.specs.Rows.{OwnRow, own_rows}
-use Rattle.peer_model.specs.Values.{assigns, own_value}
+use Rattle.peer_model.specs.Values.{own_value}
 use Rattle.peer_model.specs.Visible.{own_syncers, row_syncers_of, sees, visible_rows, visible_to}
-use Rattle.peer_model.specs.Updates.{Update, Hide, Show, Tell, Live, Replica, applied, apply_updates}
+use Rattle.peer_model.specs.Updates.{Update, Hide, Show, Tell, Live, Replica, applied}
 use Rattle.peer_model.specs.Changes.{added, changes, differs, hides, hides_and_shows, is_frame, live_numbers, mask_of, numbers_of, show_of, shows, tell_for, tell_of, tells, value_told, with_tells}
 use Rattle.peer_model.specs.View.{updates_from, view}
 use Rattle.peer_laws.proofs.Each.{any_none, every_kept, every_left, every_right, of_each}
@@ -29,7 +29,6 @@ use Rattle.world_laws.specs.Laws.{peer}
 use Rattle.world_laws.proofs.Frames.{frame_tells_all}
 use Rattle.world_laws.proofs.Law.{numbers_are_seen}
 use Rattle.world_laws.proofs.Settled.{values_settle}
-use Rattle.sight_laws.specs.Seen.{is_still}
 use Rattle.sight_laws.specs.Sights.{is_visible}
 use Rattle.sight_laws.proofs.Events.{still_alone}
 use Rattle.sight_laws.proofs.Later.{sight_left, unspawned}

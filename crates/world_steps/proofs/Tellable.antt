@@ -1,5 +1,5 @@
 -- The packet of a Tell can be written, and is read again, where the values are sound.
-use Rattle.std.proofs.Common.{◌≡◌, ℕ, ◌-◌, ◌^◌, ◌<◌, ◌≤◌, ℤ, Bool, true, false, not, ◌&&◌, List, [], ◌∷◌, ◌++◌, length, map, filter, refl, sym, ap, ◌∙◌, subst, arith, is_some, nat_le, pow_mono, Option, Some, None, length-append}
+use Rattle.std.proofs.Common.{◌≡◌, ℕ, ◌-◌, ◌^◌, ◌<◌, ◌≤◌, ℤ, Bool, true, false, not, ◌&&◌, List, [], ◌∷◌, ◌++◌, length, map, filter, refl, ◌∙◌, subst, arith, is_some, nat_le, pow_mono, Option, Some, None, length-append}
 use Rattle.std.specs.Prelude.{flat_map, is_none}
 use Rattle.std.specs.Int.{w8}
 use Rattle.std.specs.List.{list_all, AllByRecursion}
