@@ -10,6 +10,6 @@ mod hub;
 mod machine;
 mod weight;
 
-pub use hub::{Answer, EntryRows, Hub, Journal, JournalRow, Seat};
+pub use hub::{Answer, EntryRows, Hub, Journal, JournalRow, Seat, cross_threads};
 pub use machine::{Kind, PeerMachine};
 pub use turn_hub::{Did, HubStop, Look};

@@ -225,12 +225,7 @@ impl<M: Machine> Hub<M> {
     }
 
     /// Makes an End, and answers its place.
-    pub fn end<R: Wait>(
-        &self,
-        rt: &R,
-        _alloc: Global,
-        seat: &mut Seat<M>,
-    ) -> Result<u64, HubStop>
+    pub fn end<R: Wait>(&self, rt: &R, _alloc: Global, seat: &mut Seat<M>) -> Result<u64, HubStop>
         requires own { seat.old.hub ≡ self.now }
         ensures turned { Turned M.words seat.old seat.new }
         ensures ends { Ends seat.old seat.new result }

@@ -9,8 +9,11 @@ use std::alloc::Global;
 pub trait Machine: Drop {
     /// What of a machine no event changes.
     type Kind: Drop;
+
     type Event: Drop;
+
     type Outcome: Drop;
+
     type Packet: Drop;
 
     /// The definitions of its answers, and what a hub has to know of events and packets.

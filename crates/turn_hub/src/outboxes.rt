@@ -88,11 +88,7 @@ fn put_on<P: Drop>(boxes: &mut Vec<Outbox<P>>, alloc: Global, link: &i32, packet
 }
 
 /// Puts a copy of a packet behind those that wait on its link. False where memory ran out, and then nothing was put.
-fn put<M: Machine>(
-    boxes: &mut Vec<Outbox<M::Packet>>,
-    alloc: Global,
-    packet: &M::Packet,
-) -> bool
+fn put<M: Machine>(boxes: &mut Vec<Outbox<M::Packet>>, alloc: Global, packet: &M::Packet) -> bool
     requires apart { Apart boxes.old.items }
     ensures apart { Apart boxes.new.items }
     ensures put { result ≡ true → (q : ℤ) → waiting boxes.new.items q ≡ waiting boxes.old.items q ++ filter (is_for M.words q) (packet.now ∷ []) }

@@ -6,7 +6,10 @@ use atomic_table::Table;
 use std::alloc::Global;
 use std::marker::Model;
 
-pub type Token<M> = atomic_table::Seat<Option<Desk<M>>, View<<M as Machine>::Event, <M as Machine>::Kind>>;
+pub type Token<M> = atomic_table::Seat<
+    Option<Desk<M>>,
+    View<<M as Machine>::Event, <M as Machine>::Kind>,
+>;
 
 /// A machine for many callers. Contracts see which one it is.
 #[derive(Drop)]

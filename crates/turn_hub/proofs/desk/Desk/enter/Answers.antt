@@ -44,9 +44,12 @@ invariant_of-self-2 g c =
     let i = c.self.inside in
     let z : c.event_stop.result ≡ None = search rules in
     let f = free i.ended i.events i.bytes (m.words.weight c.args.event) (m.spent i.machine) c.len-place.result c.is_spent.result c.is_spent.ensures (sym (c.event_stop.ensures (m.words.weight c.args.event) c.weigh-weight.ensures) ∙ z) in
-    let st = c.self.invariant.0.stands_for (not_lost m.words _ _ _ _ _ _ _ _ _ c.self.invariant.0 f.live) in
-    (sound_event m.words _ _ _ i.rows.items (waiting i.outs) _ _ _ _ c.self.invariant.0 f.live i.kind.value (m.stands c.step.new.self) (m.spent c.step.new.self) c.push_reserved-2.new.self.items (waiting c.keep.new.self) c.args.event c.in-Ok-step.outcome c.weigh-weight.result (bool_byte c.is_received-is_received.result)
-          refl f (c.in-Ok-step.ensures.stands (events_of (past i.rows.items)) st) c.in-Ok-step.ensures.lives (c.in-Ok-step.ensures.answer (events_of (past i.rows.items)) st ∙ ap (λ k. m.words.answer k (events_of (past i.rows.items)) c.args.event) (c.self.invariant.2 f.live)) (λ q. c.keep.ensures.kept (search rules) q ∙ ap (λ ps. waiting i.outs q ++ filter (is_for m.words q) ps) c.packets.ensures) (search rules) (uncut i.bytes c.weigh-weight.result (m.words.weight c.args.event) f.light c.weigh-weight.ensures) (got_byte c.is_received-is_received.result _ c.is_received-is_received.ensures), search rules, λ l. c.in-Ok-step.ensures.kind ∙ c.self.invariant.2 f.live)
+    let st = c.self.invariant.0.stands_for (not_lost m.words _ _ _ _ _ _ _ _ _ c.self.invariant.0 f.live) in (
+      sound_event m.words _ _ _ i.rows.items (waiting i.outs) _ _ _ _ c.self.invariant.0 f.live i.kind.value (m.stands c.step.new.self) (m.spent c.step.new.self) c.push_reserved-2.new.self.items (waiting c.keep.new.self) c.args.event c.in-Ok-step.outcome c.weigh-weight.result (bool_byte c.is_received-is_received.result)
+          refl f (c.in-Ok-step.ensures.stands (events_of (past i.rows.items)) st) c.in-Ok-step.ensures.lives (c.in-Ok-step.ensures.answer (events_of (past i.rows.items)) st ∙ ap (λ k. m.words.answer k (events_of (past i.rows.items)) c.args.event) (c.self.invariant.2 f.live)) (λ q. c.keep.ensures.kept (search rules) q ∙ ap (λ ps. waiting i.outs q ++ filter (is_for m.words q) ps) c.packets.ensures) (search rules) (uncut i.bytes c.weigh-weight.result (m.words.weight c.args.event) f.light c.weigh-weight.ensures) (got_byte c.is_received-is_received.result _ c.is_received-is_received.ensures),
+      search rules,
+      λ l. c.in-Ok-step.ensures.kind ∙ c.self.invariant.2 f.live,
+    )
 
 pub returns-clause-legal : goal.returns-clause-legal
 returns-clause-legal g c =
@@ -56,4 +59,4 @@ returns-clause-legal g c =
     let f = free i.ended i.events i.bytes (m.words.weight c.args.event) (m.spent i.machine) c.len-place.result c.is_spent.result c.is_spent.ensures (sym (c.event_stop.ensures (m.words.weight c.args.event) c.weigh-weight.ensures) ∙ z) in
     let st = c.self.invariant.0.stands_for (not_lost m.words _ _ _ _ _ _ _ _ _ c.self.invariant.0 f.live) in
     (sound_event m.words _ _ _ i.rows.items (waiting i.outs) _ _ _ _ c.self.invariant.0 f.live i.kind.value (m.stands c.step.new.self) (m.spent c.step.new.self) c.push_reserved-2.new.self.items (waiting c.keep.new.self) c.args.event c.in-Ok-step.outcome c.weigh-weight.result (bool_byte c.is_received-is_received.result)
-          refl f (c.in-Ok-step.ensures.stands (events_of (past i.rows.items)) st) c.in-Ok-step.ensures.lives (c.in-Ok-step.ensures.answer (events_of (past i.rows.items)) st ∙ ap (λ k. m.words.answer k (events_of (past i.rows.items)) c.args.event) (c.self.invariant.2 f.live)) (λ q. c.keep.ensures.kept (search rules) q ∙ ap (λ ps. waiting i.outs q ++ filter (is_for m.words q) ps) c.packets.ensures) (search rules) (uncut i.bytes c.weigh-weight.result (m.words.weight c.args.event) f.light c.weigh-weight.ensures) (got_byte c.is_received-is_received.result _ c.is_received-is_received.ensures)).legal
+    refl f (c.in-Ok-step.ensures.stands (events_of (past i.rows.items)) st) c.in-Ok-step.ensures.lives (c.in-Ok-step.ensures.answer (events_of (past i.rows.items)) st ∙ ap (λ k. m.words.answer k (events_of (past i.rows.items)) c.args.event) (c.self.invariant.2 f.live)) (λ q. c.keep.ensures.kept (search rules) q ∙ ap (λ ps. waiting i.outs q ++ filter (is_for m.words q) ps) c.packets.ensures) (search rules) (uncut i.bytes c.weigh-weight.result (m.words.weight c.args.event) f.light c.weigh-weight.ensures) (got_byte c.is_received-is_received.result _ c.is_received-is_received.ensures)).legal
