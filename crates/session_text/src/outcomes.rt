@@ -103,7 +103,8 @@ fn push_skips(
     Ok(())
 }
 
-/// The packets that a peer put on its links.
+/// The packets that a peer put on its links. Each line is written into a buffer of its own, which stays
+/// small, and is then added.
 fn push_packets(
     alloc: Global,
     out: &mut Vec<u8>,
@@ -112,8 +113,11 @@ fn push_packets(
 ) -> Result<(), OutOfMemory>
     ensures { OnOk result (out.new.items ≡ out.old.items ++ flat_map (packet_line peer) packets.now) }
 {
+    let mut line = Vec::new(alloc);
     for packet in packets {
-        push_packet(alloc, out, peer, packet)?;
+        line.clear();
+        push_packet(alloc, &mut line, peer, packet)?;
+        out.extend_from_slice(line.as_slice())?;
     }
     Ok(())
 }

@@ -76,12 +76,16 @@ fn push_row(alloc: Global, out: &mut Vec<u8>, peer: i32, row: &Row) -> Result<()
     push_values(alloc, out, peer, row.path.as_str(), row.values.as_slice())
 }
 
-/// The nodes with their properties.
+/// The nodes with their properties. A node's lines are written into a buffer of their own, which stays
+/// small, and are then added.
 fn push_rows(alloc: Global, out: &mut Vec<u8>, peer: i32, rows: &[Row]) -> Result<(), OutOfMemory>
     ensures { OnOk result (out.new.items ≡ out.old.items ++ flat_map (row_lines peer) rows.now) }
 {
+    let mut lines = Vec::new(alloc);
     for row in rows {
-        push_row(alloc, out, peer, row)?;
+        lines.clear();
+        push_row(alloc, &mut lines, peer, row)?;
+        out.extend_from_slice(lines.as_slice())?;
     }
     Ok(())
 }
