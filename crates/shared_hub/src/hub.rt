@@ -47,11 +47,15 @@ pub struct Seat {
 }
 
 impl Model for Seat {
+    ghost use Rattle.std.specs.Coded.{codes};
+    ghost use Rattle.gd_variant.specs.contracts.value.Variant as variant;
     ghost use Rattle.scene_model.specs.declared.event.Event.{Event};
     ghost use Rattle.turn_hub.specs.Known.{Known};
     ghost use Rattle.shared_hub.specs.declared.machine.Kind.{Kind};
 
     ghost Value = { Known Event Kind };
+
+    ghost coded = { Prim.hlevel (codes, variant.the_row.coded) };
 
     ghost view = { λ s. s.token };
 }
