@@ -195,13 +195,3 @@ impl Seat {
         self.token.units()
     }
 }
-
-fn is_sent<T: Send>() {}
-
-fn is_shared<T: Send + Sync>() {}
-
-/// A hub is shared by threads, and a seat goes from one to another.
-pub fn cross_threads() {
-    is_shared::<Hub>();
-    is_sent::<Seat>();
-}

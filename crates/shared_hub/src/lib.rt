@@ -6,10 +6,12 @@
 //! that each of its events has there.
 #![tactic(auto)]
 
+mod crossing;
 mod hub;
 mod machine;
 mod weight;
 
-pub use hub::{Answer, EntryRows, Hub, Journal, JournalRow, Seat, cross_threads};
+pub use crossing::cross_threads;
+pub use hub::{Answer, EntryRows, Hub, Journal, JournalRow, Seat};
 pub use machine::{Kind, PeerMachine};
 pub use turn_hub::{Did, HubStop, Look};
