@@ -1,5 +1,5 @@
 -- A peer, as a hub runs it.
-use Rattle.std.specs.Prelude.{◌≡◌, ℤ, Bool, true, false, List, [], ◌∷◌, length, if◌then◌else◌}
+use Rattle.std.specs.Prelude.{◌≡◌, Bool, true, false, List, [], ◌∷◌, length, if◌then◌else◌}
 use Rattle.scene_model.specs.declared.event.Event.{Event}
 use Rattle.scene_model.specs.declared.event.Event.TheVariants as event
 use Rattle.scene_model.specs.declared.outcome.Outcome.{Outcome}
