@@ -1,10 +1,10 @@
 -- What an entry does to a history.
-use Rattle.std.proofs.Common.{◌≡◌, ℤ, ◌≢◌, ℕ, eq-eqb, Bool, true, false, suc, ◌+◌, ◌-◌, ◌<◌, ◌≤◌, ◌^◌, List, [], ◌∷◌, ◌++◌, length, refl, sym, ap, subst, ◌∙◌, arith, filter, nat_eq, nat_lt, cond, if◌then◌else◌, ◌||◌, Option, Some, None, min, inl, inr}
-use Rattle.std.proofs.lemmas.Bool.{true≢false, ltb-false, lt-ltb, le-ltb, ltb-true, cases_lt}
+use Rattle.std.proofs.Common.{◌≡◌, ℤ, ◌≢◌, ℕ, eq-eqb, Bool, true, false, suc, ◌+◌, ◌-◌, ◌<◌, ◌≤◌, ◌^◌, List, [], ◌∷◌, ◌++◌, length, refl, sym, ap, subst, ◌∙◌, arith, filter, nat_eq, nat_lt, cond, if◌then◌else◌, ◌||◌, Option, Some, None, min}
+use Rattle.std.proofs.lemmas.Bool.{true≢false, ltb-false}
 use Rattle.std.specs.Ordering.{int_eq}
 use Rattle.std.proofs.lemmas.List.{length-append}
 use Rattle.std.proofs.lemmas.List.Sums.{sum_by-cons}
-use Rattle.std.proofs.Math.Nat.{min-eq_left, min-eq_right, min-le_left}
+use Rattle.std.proofs.Math.Nat.{min-eq_left}
 use mir.Val.{bool_byte}
 use Rattle.turn_hub.specs.Words.{Words}
 use Rattle.turn_hub.specs.declared.entry.Did.{Did}

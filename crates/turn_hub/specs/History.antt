@@ -1,5 +1,5 @@
 -- The entries of a journal, and what follows from them. `past` has the newest entry first; the other lists of entries have the oldest first.
-use Rattle.std.specs.Prelude.{◌≡◌, ℤ, ℕ, ◌+◌, ◌-◌, ◌<◌, Bool, true, false, List, [], ◌∷◌, ◌++◌, length, nat_eq, nat_lt, filter, if◌then◌else◌, Option, Some, None, sum_by, ◌||◌, ◌⊎◌, Result, MatchResult}
+use Rattle.std.specs.Prelude.{◌≡◌, ℤ, ℕ, ◌+◌, ◌-◌, ◌<◌, Bool, List, [], ◌∷◌, ◌++◌, length, nat_eq, nat_lt, filter, if◌then◌else◌, Option, Some, None, sum_by, ◌||◌, ◌⊎◌, Result, MatchResult}
 use Rattle.std.specs.Ordering.{int_eq}
 use Rattle.turn_hub.specs.Words.{Words}
 use Rattle.turn_hub.specs.declared.entry.Did.{Did}

@@ -1,7 +1,6 @@
-use Rattle.std.proofs.Common.{rules, arith, ap, sym, subst, ◌∙◌, ◌≡◌, ◌<◌, ◌+◌, ◌-◌, ◌++◌, ℕ, ℤ, List, [], take, filter, w32, to_z, of_z, length, get_or}
+use Rattle.std.proofs.Common.{rules, arith, ap, sym, ◌∙◌, ◌≡◌, ◌<◌, ◌+◌, ◌-◌, ◌++◌, ℕ, take, filter, w32, to_z, of_z, length}
 use Rattle.std.proofs.lemmas.List.{append-nil}
 use Rattle.std.proofs.lemmas.Int.{to_z-of_z}
-use Rattle.turn_hub.specs.Boxes.{waiting}
 use Rattle.turn_hub.specs.History.{is_for}
 use Rattle.turn_hub.proofs.Boxes.{back_one}
 use Rattle.turn_hub.proofs.outboxes.take_back.Goals as goal

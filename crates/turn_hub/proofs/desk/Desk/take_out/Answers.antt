@@ -1,8 +1,7 @@
-use Rattle.std.proofs.Common.{rules, sym, subst, ap, ◌∙◌, ◌≡◌, ◌<◌, ℕ, None, false, length}
-use Rattle.turn_hub.specs.Sound.{Sound}
+use Rattle.std.proofs.Common.{rules, sym, ◌∙◌, ◌≡◌, ◌<◌, None}
 use Rattle.turn_hub.specs.Boxes.{waiting}
 use Rattle.turn_hub.proofs.Boxes.{took_all}
-use Rattle.turn_hub.proofs.History.{sound_took, none_spent, not_zero}
+use Rattle.turn_hub.proofs.History.{sound_took, none_spent}
 use Rattle.turn_hub.proofs.desk.Desk.take_out.Goals as goal
 
 pub invariant_of-self-2 : goal.invariant_of-self-2

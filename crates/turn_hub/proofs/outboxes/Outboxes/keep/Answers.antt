@@ -1,4 +1,4 @@
-use Rattle.std.proofs.Common.{ap, ◌∙◌, ℤ}
+use Rattle.std.proofs.Common.{ap, ◌∙◌}
 use Rattle.turn_hub.specs.Boxes.{waiting}
 use Rattle.turn_hub.proofs.outboxes.Outboxes.keep.Goals as goal
 

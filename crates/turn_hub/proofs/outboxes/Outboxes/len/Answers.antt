@@ -1,4 +1,4 @@
-use Rattle.std.proofs.Common.{rules, ◌≡◌, Some, false, ap, sym, ◌∙◌, length, refl}
+use Rattle.std.proofs.Common.{rules, ◌≡◌, Some, false, ap, sym, ◌∙◌, length}
 use Rattle.std.specs.List.{slice_get}
 use Rattle.turn_hub.specs.Boxes.{has_box, waiting}
 use Rattle.turn_hub.proofs.Boxes.{found, nothing, read_box, read_link}

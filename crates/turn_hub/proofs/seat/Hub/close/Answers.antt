@@ -1,4 +1,4 @@
-use Rattle.std.proofs.Common.{rules, ap, ap₂, sym, subst, ◌∙◌, ◌≡◌, ◌+◌, ℕ, List, length}
+use Rattle.std.proofs.Common.{rules, ap, sym, subst, ◌∙◌, ◌≡◌, ◌+◌, List, length}
 use Rattle.turn_hub.specs.declared.entry.Did.{Did}
 use Rattle.turn_hub.specs.History.{StartsWith}
 use Rattle.turn_hub.specs.Kept.{Caller, times, upto}

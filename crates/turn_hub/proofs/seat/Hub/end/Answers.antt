@@ -1,4 +1,4 @@
-use Rattle.std.proofs.Common.{◌∙◌, refl, inl}
+use Rattle.std.proofs.Common.{◌∙◌}
 use Rattle.turn_hub.proofs.Turns.{turned, ready_after, grown_end}
 use Rattle.turn_hub.proofs.seat.Hub.end.Goals as goal
 

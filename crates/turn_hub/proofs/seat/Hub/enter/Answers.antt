@@ -1,4 +1,4 @@
-use Rattle.std.proofs.Common.{◌∙◌, refl, inl}
+use Rattle.std.proofs.Common.{◌∙◌}
 use Rattle.turn_hub.proofs.Turns.{turned, ready_after, grown}
 use Rattle.turn_hub.proofs.seat.Hub.enter.Goals as goal
 

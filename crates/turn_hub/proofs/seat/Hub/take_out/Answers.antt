@@ -1,4 +1,4 @@
-use Rattle.std.proofs.Common.{rules, ◌∙◌, refl, inl, ℤ, ◌≡◌, List, ap, sym, subst, w32, to_z, of_z}
+use Rattle.std.proofs.Common.{rules, ◌∙◌, ℤ, ◌≡◌, List, ap, sym, subst, w32, to_z, of_z}
 use Rattle.std.proofs.lemmas.Int.{to_z-of_z}
 use Rattle.turn_hub.specs.declared.entry.Did.{Did}
 use Rattle.turn_hub.specs.Calls.{Takes}
