@@ -1,5 +1,5 @@
 -- One event more.
-use Rattle.std.proofs.Common.{◌≡◌, Bool, true, false, List, ◌∷◌, refl, sym, ap, subst, ◌∙◌, cond, if◌then◌else◌}
+use Rattle.std.proofs.Common.{◌≡◌, Bool, true, false, List, ◌∷◌, refl, sym, ap, subst, cond}
 use Rattle.scene_model.specs.declared.event.Event.{Event}
 use Rattle.scene_model.specs.declared.outcome.Outcome.{Outcome}
 use Rattle.scene_model.specs.declared.outcome.Outcome.TheVariants.{Fault}
