@@ -1,0 +1,5 @@
+pub mod Boxes
+pub mod History
+pub mod Steps
+pub mod Totals
+pub mod Turns

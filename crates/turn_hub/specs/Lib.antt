@@ -1,0 +1,9 @@
+pub mod Boxes
+pub mod Calls
+pub mod History
+pub mod Kept
+pub mod Known
+pub mod Ready
+pub mod Rises
+pub mod Sound
+pub mod Words
