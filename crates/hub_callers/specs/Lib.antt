@@ -1,0 +1,4 @@
+pub mod Entries
+pub mod Examples
+pub mod Serving
+pub mod Shuffle
