@@ -110,7 +110,7 @@ module _ {A : Type 0} where
       let l : k < b = omega arith in
       let end : b ≡ k + 1 + length j = omega arith in
       let here : g k ≡ Some d = ap g (omega arith) ∙ sym (at 0) in
-      let next : (n : ℕ) → slice_get j n ≡ g (k + 1 + n) = λ n. at (n + 1) ∙ ap g (omega arith) in
+      let next : (n : ℕ) → slice_get j n ≡ g (k + 1 + n) = λ n. at (suc n) ∙ ap g (omega arith) in
       elim (first_of k b ps l h) [
         | inl f ↦
           elim (first_of k b qs l i) [

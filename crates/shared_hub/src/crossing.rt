@@ -7,6 +7,7 @@ ghost use Rattle.shared_hub.specs.contracts.hub.Seat as seat;
 
 use crate::hub::{Hub, Seat};
 use crate::machine::Kind;
+use delta_props::Told;
 use headless_tree::{NodeNow, Tree};
 use relay_sys::Peers;
 use scene_model::{Event, Out, Scene};
@@ -33,6 +34,7 @@ fn peer_sent()
     tree_sent();
     sent::<Peers>();
     sent::<Track>();
+    sent::<Told>();
 }
 
 /// What a hub and its seats are, where they go to other threads.
