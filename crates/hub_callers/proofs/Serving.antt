@@ -1,12 +1,12 @@
 -- A caller's own entries, one event later, and those of two that were met.
-use Rattle.std.proofs.Common.{◌≡◌, ℕ, zero, suc, ◌+◌, ◌<◌, ◌≤◌, List, [], ◌∷◌, ◌++◌, length, refl, sym, ap, ap₂, subst, ◌∙◌, map, append_assoc, arith, Option, Some, Result, Ok, OnOk, nat_eq, Bool, if◌then◌else◌, ne_eqb, eqb-true, true, false}
+use Rattle.std.proofs.Common.{◌≡◌, ℕ, None, zero, suc, ◌+◌, ◌<◌, ◌≤◌, List, [], ◌∷◌, ◌++◌, length, refl, sym, ap, ap₂, subst, ◌∙◌, map, append_assoc, arith, Option, Some, Result, Ok, OnOk, nat_eq, Bool, if◌then◌else◌, ne_eqb, eqb-true, true, false}
 use Rattle.std.proofs.lemmas.Bool.{eqb-false}
 use Rattle.std.proofs.lemmas.List.{append-nil, map-append, length-append}
 use Rattle.std.specs.List.{slice_get}
 use Rattle.turn_hub.specs.declared.entry.Did.{Did}
 use Rattle.turn_hub.specs.declared.entry.Did.TheVariants as did
 use Rattle.turn_hub.specs.Words.{Words}
-use Rattle.turn_hub.specs.History.{StartsWith}
+use Rattle.turn_hub.specs.History.{StartsWith, lost, past, turned_onto}
 use Rattle.turn_hub.specs.Kept.{times, upto}
 use Rattle.turn_hub.specs.Known.{Known}
 use Rattle.turn_hub.specs.Rises.{Rises}
@@ -14,7 +14,7 @@ use Rattle.turn_hub.specs.Calls.{own, Turned, Added, Met}
 use Rattle.turn_hub.proofs.Totals.{times-append}
 use Rattle.turn_hub.proofs.Turns.{own_grows, own_stays}
 use Rattle.hub_callers.specs.Entries.{entry, Entries}
-use Rattle.hub_callers.specs.Shuffle.{Shuffle}
+use Rattle.hub_callers.specs.Shuffle.{Shuffle, entries, firsts, seconds}
 use Rattle.hub_callers.proofs.Shuffling.{shuffled_at}
 
 pub of_ok : {A E : Type 0} (r : Result A E) (x : A) (X : Type 0) → r ≡ Ok x → OnOk r X → X
@@ -102,3 +102,42 @@ module _ {E K : Type 0} where
           let u = upto_has (length j) p below in omega (arith, x, y, z, q, u))
       (its_entries v a j es vm s first)
       (its_entries w b j fs wm t second)
+
+-- ---- a journal of events alone has no Lost
+
+module _ {E : Type 0} where
+  abbrev pub IsEvent : Did E → Type 0
+  IsEvent (did.Event e) = Unit {0}
+  IsEvent (did.Took p n) = ⊥
+  IsEvent did.End = ⊥
+  IsEvent did.Lost = ⊥
+
+  abbrev pub AreEvents : List (Did E) → Type 0
+  AreEvents [] = Unit {0}
+  AreEvents (d ∷ ds) = IsEvent d × AreEvents ds
+
+  no_lost : (h : List (Did E)) → AreEvents h → lost h ≡ None
+  no_lost [] a = refl
+  no_lost (did.Event e ∷ h) a = refl
+  no_lost (did.Took p n ∷ h) a = absurd a.0
+  no_lost (did.End ∷ h) a = absurd a.0
+  no_lost (did.Lost ∷ h) a = absurd a.0
+
+  turned_events : (h ds : List (Did E)) → AreEvents h → AreEvents ds → AreEvents (turned_onto h ds)
+  turned_events h [] a b = a
+  turned_events h (d ∷ ds) a b = turned_events (d ∷ h) ds (b.0, a) b.1
+
+  entries_are : (es : List E) → AreEvents (map entry es)
+  entries_are [] = tt
+  entries_are (e ∷ es) = (tt, entries_are es)
+
+  both_are : (s : List (Bool × Did E)) → AreEvents (firsts s) → AreEvents (seconds s) → AreEvents (entries s)
+  both_are [] f g = tt
+  both_are ((true, d) ∷ s) f g = (f.0, both_are s f.1 g)
+  both_are ((false, d) ∷ s) f g = (g.0, both_are s f g.1)
+
+  pub none_lost : (j : List (Did E)) (es fs : List E) → Shuffle j (map entry es) (map entry fs) → lost (past j) ≡ None
+  none_lost j es fs s =
+      let f = subst AreEvents (sym s.2) (entries_are es) in
+      let g = subst AreEvents (sym s.3) (entries_are fs) in
+      no_lost (past j) (turned_events [] j tt (subst AreEvents s.1 (both_are s.0 f g)))

@@ -10,7 +10,7 @@ ghost use Rattle.hub_callers.specs.Serving.{Gives, IsOfBoth};
 use crate::serving::{Served, close_both, serve};
 use peer_core::Peer;
 use scene_model::Event;
-use shared_hub::{Hub, Journal, Seat};
+use shared_hub::{Hub, Journal, Seat, cross_threads};
 use std::alloc::Global;
 use std::snapshot::Snapshot;
 use std::sync::{Arc, Wait};
@@ -60,6 +60,7 @@ pub fn begin<R: Threads + Wait + Copy + Send + Sync + 'static>(
 ) -> Option<PromisedHandle<Served, Given>>
     ensures { IfSome result (λ handle. handle.promise.0.value ≡ job) }
 {
+    cross_threads();
     let promise = Given(Snapshot::of(&job));
     let inner = *rt;
     thread::spawn_with(rt, promise, move || job.go(&inner)).ok()
@@ -77,6 +78,7 @@ pub fn run_jobs<R: Threads + Wait + Copy + Send + Sync + 'static>(
     requires may { All MayEnter first.items × All MayEnter second.items }
     ensures { IfSome result (λ r. IsOfBoth r.0 r.1.entries.items first.items second.items) }
 {
+    cross_threads();
     let (hub, mut whole) = Hub::new(alloc, peer).ok()?;
     let hub = Arc::new(alloc, hub).ok()?;
     let one = hub.seat(&mut whole, 1);

@@ -1,15 +1,16 @@
 //! Two threads of a scope share a hub by reference.
-ghost use Rattle.std.specs.Prelude.{◌≡◌, [], IfOk};
+ghost use Rattle.std.specs.Prelude.{◌≡◌, [], IfOk, OnOk};
 ghost use Rattle.std.specs.List.{All};
 ghost use Rattle.peer_steps.specs.Stands.{StandsFor};
 ghost use Rattle.peer_core.specs.Forms.{packet_form};
 ghost use Rattle.shared_hub.specs.Peer.{MayEnter};
+ghost use Rattle.hub_callers.specs.Entries.{Entries};
 ghost use Rattle.hub_callers.specs.Serving.{IsOfBoth};
 
 use crate::serving::{Served, close_both, serve};
 use peer_core::Peer;
 use scene_model::Event;
-use shared_hub::{Hub, HubStop, Journal};
+use shared_hub::{Hub, HubStop, Journal, cross_threads};
 use std::alloc::Global;
 use std::sync::Wait;
 use std::thread::{Threads, join};
@@ -26,6 +27,7 @@ pub fn run_scoped<R: Threads + Wait + Sync>(
     requires may { All MayEnter first.now × All MayEnter second.now }
     ensures { IfOk result (λ r. IsOfBoth r.0 r.1.entries.items first.now second.now) }
 {
+    cross_threads();
     let Ok((hub, mut whole)) = Hub::new(alloc, peer) else {
         return Err(HubStop::OutOfMemory);
     };

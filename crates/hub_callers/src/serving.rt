@@ -6,7 +6,8 @@ ghost use Rattle.turn_hub.specs.Kept.{all_units};
 ghost use Rattle.turn_hub.specs.Known.{Known};
 ghost use Rattle.shared_hub.specs.declared.machine.Kind.{Kind as KindOf};
 ghost use Rattle.shared_hub.specs.Peer.{MayEnter};
-ghost use Rattle.hub_callers.specs.Serving.{Entries, IsOfBoth};
+ghost use Rattle.hub_callers.specs.Entries.{Entries};
+ghost use Rattle.hub_callers.specs.Serving.{IsOfBoth};
 
 use peer_core::Peer;
 use scene_model::{Event, TryClone};

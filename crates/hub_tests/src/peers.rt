@@ -7,18 +7,62 @@ ghost use Rattle.shared_hub.specs.Peer.{MayEnter};
 use gd_variant::{Text, Variant};
 use line_text::read_scene;
 use peer_core::Peer;
-use scene_model::{Event, Op};
+use scene_model::{Event, Op, Prop, PropList, SpawnOp};
 use std::alloc::Global;
 
-/// A server whose scene has the node `a` with the property `hp`, before its first event.
-pub fn server(alloc: Global) -> Option<Peer>
+/// The server of the scene of a line, before its first event.
+fn server_of(alloc: Global, line: &[u8]) -> Option<Peer>
     ensures { IfSome result (λ p. StandsFor packet_form p []) }
 {
-    let scene = br#"{"nodes":[{"path":"a","props":[["hp",10]]}],"scenes":[]}"#;
-    match read_scene(alloc, scene) {
+    match read_scene(alloc, line) {
         Ok(scene) => Peer::new(alloc, 1, &scene).ok(),
         Err(_) => None,
     }
+}
+
+/// A server whose scene has the node `a` with the property `hp`.
+pub fn server(alloc: Global) -> Option<Peer>
+    ensures { IfSome result (λ p. StandsFor packet_form p []) }
+{
+    server_of(
+        alloc,
+        br#"{"nodes":[{"path":"a","props":[["hp",10]]}],"scenes":[]}"#,
+    )
+}
+
+/// A server whose scene has the spawner `s` for the scene `p` with the property `v`.
+pub fn spawner(alloc: Global) -> Option<Peer>
+    ensures { IfSome result (λ p. StandsFor packet_form p []) }
+{
+    server_of(
+        alloc,
+        br#"{"nodes":[{"path":"s","spawner":{"under":"s","scenes":["p"]}}],"scenes":[{"name":"p","props":[["v",0]],"methods":[],"syncs":[{"props":[["v","change",true]]}]}]}"#,
+    )
+}
+
+/// Spawns `p1` with 5.
+#[tactic(auto, using(crate::proofs::Entering::may_spawn))]
+pub fn spawn_five(alloc: Global) -> Option<Event>
+    ensures { IfSome result MayEnter }
+{
+    let spawner = Text::from_str(alloc, "s").ok()?;
+    let scene = Text::from_str(alloc, "p").ok()?;
+    let name = Text::from_str(alloc, "p1").ok()?;
+    let set = Prop {
+        name: Text::from_str(alloc, "v").ok()?,
+        value: Variant::Int(5),
+    };
+    let mut sets = PropList::new(alloc);
+    if sets.push(set).is_err() {
+        return None;
+    }
+    Some(Event::Op(Op::Spawn(SpawnOp {
+        spawner,
+        scene: Some(scene),
+        name,
+        sets,
+        arg: None,
+    })))
 }
 
 /// Assigns 9 to `hp` of `a`.
