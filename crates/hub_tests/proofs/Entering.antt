@@ -17,4 +17,4 @@ may_set path prop v h = refl, h
 
 pub may_spawn : (spawner scene name prop : List ℕ) (v : Variant) → is_sound v ≡ true → MayEnter (Op (Spawn (record { spawner = spawner; scene = Some scene; name = name; sets = record { name = prop; value = v } ∷ []; arg = None })))
 unfolding MayEnter
-may_spawn spawner scene name prop v h = refl, and_from _ _ refl (and_from _ _ h refl)
+may_spawn spawner scene name prop v h = refl, and_from (is_sound v) true h refl
