@@ -1,2 +1,2 @@
-pub mod Serving
+pub mod Own
 pub mod Shuffling

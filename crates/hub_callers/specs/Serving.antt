@@ -6,7 +6,7 @@ use Rattle.turn_hub.specs.declared.entry.Did.{Did}
 use Rattle.turn_hub.specs.History.{events_of, past}
 use Rattle.shared_hub.specs.Peer.{Stands}
 use Rattle.hub_callers.specs.declared.serving.Served.{Served}
-use Rattle.hub_callers.specs.declared.jobs.ServeJob.{ServeJob}
+use Rattle.hub_callers.specs.declared.job.ServeJob.{ServeJob}
 use Rattle.hub_callers.specs.Entries.{entry, Entries}
 use Rattle.hub_callers.specs.Shuffle.{Shuffle}
 

@@ -1,43 +1,21 @@
 //! Two started jobs own a hub together.
-ghost use Rattle.std.specs.Prelude.{◌≡◌, [], IfOk, IfSome};
-ghost use Rattle.std.specs.Arc.{arc_value};
+ghost use Rattle.std.specs.Prelude.{◌≡◌, [], IfSome};
 ghost use Rattle.std.specs.List.{All};
 ghost use Rattle.peer_steps.specs.Stands.{StandsFor};
 ghost use Rattle.peer_core.specs.Forms.{packet_form};
 ghost use Rattle.shared_hub.specs.Peer.{MayEnter};
 ghost use Rattle.hub_callers.specs.Serving.{Gives, IsOfBoth};
 
+use crate::job::{Given, ServeJob};
 use crate::serving::{Served, close_both, serve};
 use peer_core::Peer;
 use scene_model::Event;
-use shared_hub::{Hub, Journal, Seat, cross_threads};
+use shared_hub::{Hub, Journal, cross_threads};
 use std::alloc::Global;
 use std::snapshot::Snapshot;
 use std::sync::{Arc, Wait};
 use std::thread;
-use std::thread::{Promise, PromisedHandle, Threads};
-
-/// A caller that may run in a thread of its own: it has made no entry, and its events may be entered.
-#[derive(Drop)]
-pub struct ServeJob {
-    pub alloc: Global,
-    pub hub: Arc<Hub, Global>,
-    pub seat: Seat,
-    pub events: Vec<Event>,
-    pub ghost own: { seat.hub ≡ arc_value hub },
-    pub ghost fresh: { seat.mine ≡ [] },
-    pub ghost may: { All MayEnter events.items },
-}
-
-/// What a job gives back.
-#[derive(Drop)]
-pub struct Given(pub(crate) Snapshot<ServeJob>);
-
-impl Promise<Served> for Given {
-    ghost use Rattle.hub_callers.specs.Serving.{Gives};
-
-    ghost kept_by = { λ p out. Gives p.0.value out };
-}
+use std::thread::{PromisedHandle, Threads};
 
 impl ServeJob {
     pub fn go<R: Wait>(self, rt: &R) -> Served

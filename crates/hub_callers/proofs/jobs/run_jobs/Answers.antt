@@ -1,8 +1,8 @@
 use Rattle.std.proofs.Common.{rules, subst}
-use Rattle.hub_callers.specs.declared.jobs.ServeJob.{ServeJob}
+use Rattle.hub_callers.specs.declared.job.ServeJob.{ServeJob}
 use Rattle.hub_callers.specs.Entries.{Entries}
 use Rattle.hub_callers.specs.Serving.{Gives}
-use Rattle.hub_callers.proofs.Serving.{of_ok}
+use Rattle.hub_callers.proofs.Own.{of_ok}
 use Rattle.hub_callers.proofs.jobs.run_jobs.Goals as goal
 
 pub returns : goal.returns

@@ -1,6 +1,6 @@
 use Rattle.std.proofs.Common.{rules}
 use Rattle.hub_callers.specs.Entries.{Entries}
-use Rattle.hub_callers.proofs.Serving.{of_ok}
+use Rattle.hub_callers.proofs.Own.{of_ok}
 use Rattle.hub_callers.proofs.scoped.run_scoped.Goals as goal
 
 pub returns : goal.returns

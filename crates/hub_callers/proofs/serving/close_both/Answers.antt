@@ -1,5 +1,5 @@
 use Rattle.std.proofs.Common.{rules}
-use Rattle.hub_callers.proofs.Serving.{shuffled, none_lost}
+use Rattle.hub_callers.proofs.Own.{shuffled, none_lost}
 use Rattle.hub_callers.proofs.serving.close_both.Goals as goal
 
 pub returns : goal.returns

@@ -4,7 +4,7 @@ use Rattle.scene_model.specs.declared.event.Event.{Event}
 use Rattle.scene_model.specs.declared.event.Event.TheVariants as event
 use Rattle.shared_hub.specs.Peer.{peer_words}
 use Rattle.hub_callers.specs.Entries.{Entries}
-use Rattle.hub_callers.proofs.Serving.{goes_on}
+use Rattle.hub_callers.proofs.Own.{goes_on}
 use Rattle.hub_callers.proofs.serving.serve.Goals as goal
 
 pub loop-event-preserved : goal.loop-event-preserved
