@@ -1,7 +1,7 @@
 -- A caller's own entries, one event later, and those of two that were met.
-use Rattle.std.proofs.Common.{◌≡◌, ℕ, None, zero, suc, ◌+◌, ◌<◌, ◌≤◌, List, [], ◌∷◌, ◌++◌, length, refl, sym, ap, ap₂, subst, ◌∙◌, map, append_assoc, arith, Option, Some, Result, Ok, OnOk, nat_eq, Bool, if◌then◌else◌, ne_eqb, eqb-true, true, false}
+use Rattle.std.proofs.Common.{◌≡◌, ℕ, None, take, get_or, zero, suc, ◌+◌, ◌<◌, ◌≤◌, List, [], ◌∷◌, ◌++◌, length, refl, sym, ap, ap₂, subst, ◌∙◌, map, append_assoc, arith, Option, Some, Result, Ok, OnOk, nat_eq, Bool, if◌then◌else◌, ne_eqb, eqb-true, true, false}
 use Rattle.std.proofs.lemmas.Bool.{eqb-false}
-use Rattle.std.proofs.lemmas.List.{append-nil, map-append, length-append}
+use Rattle.std.proofs.lemmas.List.{append-nil, map-append, length-append, take_more}
 use Rattle.std.specs.List.{slice_get}
 use Rattle.turn_hub.specs.declared.entry.Did.{Did}
 use Rattle.turn_hub.specs.declared.entry.Did.TheVariants as did
@@ -102,6 +102,10 @@ module _ {E K : Type 0} where
           let u = upto_has (length j) p below in omega (arith, x, y, z, q, u))
       (its_entries v a j es vm s first)
       (its_entries w b j fs wm t second)
+
+-- the events so far, and the next
+pub next_taken : {E : Type 0} (es : List E) (i : ℕ) (e item : E) → i < length es → item ≡ get_or es i item → e ≡ item → take (i + 1) es ≡ take i es ++ e ∷ []
+next_taken {E} es i e item low is same = take_more es i item low ∙ ap (λ (x : E). take i es ++ x ∷ []) (sym is ∙ sym same)
 
 -- ---- a journal of events alone has no Lost
 
