@@ -1,3 +1,4 @@
+pub mod Allowed
 pub mod Entries
 pub mod Examples
 pub mod Serving

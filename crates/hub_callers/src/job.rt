@@ -1,8 +1,8 @@
 //! A caller that may run in a thread of its own.
-ghost use Rattle.std.specs.Prelude.{◌≡◌, []};
+ghost use Rattle.std.specs.Prelude.{◌≡◌, [], true};
 ghost use Rattle.std.specs.Arc.{arc_value};
-ghost use Rattle.std.specs.List.{All};
-ghost use Rattle.shared_hub.specs.Peer.{MayEnter};
+ghost use Rattle.std.specs.List.{list_all};
+ghost use Rattle.hub_callers.specs.Allowed.{is_allowed};
 
 use crate::serving::Served;
 use scene_model::Event;
@@ -21,7 +21,7 @@ pub struct ServeJob {
     pub events: Vec<Event>,
     pub ghost own: { seat.hub ≡ arc_value hub },
     pub ghost fresh: { seat.mine ≡ [] },
-    pub ghost may: { All MayEnter events.items },
+    pub ghost may: { list_all is_allowed events.items ≡ true },
 }
 
 /// What a job gives back.

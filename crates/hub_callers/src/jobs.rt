@@ -1,9 +1,9 @@
 //! Two started jobs own a hub together.
-ghost use Rattle.std.specs.Prelude.{◌≡◌, [], IfSome};
-ghost use Rattle.std.specs.List.{All};
+ghost use Rattle.std.specs.Prelude.{◌≡◌, [], true, IfSome};
+ghost use Rattle.std.specs.List.{list_all};
 ghost use Rattle.peer_steps.specs.Stands.{StandsFor};
 ghost use Rattle.peer_core.specs.Forms.{packet_form};
-ghost use Rattle.shared_hub.specs.Peer.{MayEnter};
+ghost use Rattle.hub_callers.specs.Allowed.{is_allowed};
 ghost use Rattle.hub_callers.specs.Serving.{Gives, IsOfBoth};
 
 use crate::job::{Given, ServeJob};
@@ -18,6 +18,7 @@ use std::thread;
 use std::thread::{PromisedHandle, Threads};
 
 impl ServeJob {
+    #[tactic(auto, using(crate::proofs::Allowing::all_allowed))]
     pub fn go<R: Wait>(self, rt: &R) -> Served
         ensures { Gives self result }
     {
@@ -53,7 +54,7 @@ pub fn run_jobs<R: Threads + Wait + Copy + Send + Sync + 'static>(
     second: Vec<Event>,
 ) -> Option<(Peer, Journal)>
     requires fresh { StandsFor packet_form peer [] }
-    requires may { All MayEnter first.items × All MayEnter second.items }
+    requires may { (list_all is_allowed first.items ≡ true) × (list_all is_allowed second.items ≡ true) }
     ensures { IfSome result (λ r. IsOfBoth r.0 r.1.entries.items first.items second.items) }
 {
     cross_threads();
