@@ -1,6 +1,6 @@
 -- A caller's own entries, one event later, and those of two that were met.
-use Rattle.std.proofs.Common.{◌≡◌, ℕ, None, take, get_or, zero, suc, ◌+◌, ◌<◌, ◌≤◌, List, [], ◌∷◌, ◌++◌, length, refl, sym, ap, ap₂, subst, ◌∙◌, map, append_assoc, arith, Option, Some, Result, Ok, OnOk, nat_eq, Bool, if◌then◌else◌, ne_eqb, eqb-true, true, false}
-use Rattle.std.proofs.lemmas.Bool.{eqb-false}
+use Rattle.std.proofs.Common.{◌≡◌, ℕ, None, take, get_or, zero, suc, ◌+◌, ◌<◌, ◌≤◌, List, [], ◌∷◌, ◌++◌, length, refl, sym, ap, ap₂, subst, ◌∙◌, map, append_assoc, arith, Option, Some, Result, Ok, Err, OnOk, is_err, nat_eq, Bool, if◌then◌else◌, ne_eqb, eqb-true, true, false}
+use Rattle.std.proofs.lemmas.Bool.{eqb-false, true≢false}
 use Rattle.std.proofs.lemmas.List.{append-nil, map-append, length-append, take_more}
 use Rattle.std.specs.List.{slice_get}
 use Rattle.turn_hub.specs.declared.entry.Did.{Did}
@@ -19,6 +19,10 @@ use Rattle.hub_callers.proofs.Shuffling.{shuffled_at}
 
 pub of_ok : {A E : Type 0} (r : Result A E) (x : A) (X : Type 0) → r ≡ Ok x → OnOk r X → X
 of_ok r x X e h = subst (λ (q : Result _ _). OnOk q X) e h
+
+pub not_err : {A E : Type 0} (r : Result A E) (X : Type 0) → is_err r ≡ false → OnOk r X → X
+not_err (Ok x) X e h = h
+not_err (Err x) X e h = absurd (true≢false e)
 
 -- ---- places below n
 

@@ -1,6 +1,7 @@
 //! Callers of a hub, by its public calls alone: two scoped threads, and two started jobs.
 #![tactic(auto)]
 
+mod crossing;
 mod job;
 mod jobs;
 mod scoped;

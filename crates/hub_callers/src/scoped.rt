@@ -7,6 +7,7 @@ ghost use Rattle.shared_hub.specs.Peer.{MayEnter};
 ghost use Rattle.hub_callers.specs.Entries.{Entries};
 ghost use Rattle.hub_callers.specs.Serving.{IsOfBoth};
 
+use crate::crossing::events_cross;
 use crate::serving::{Served, close_both, serve};
 use peer_core::Peer;
 use scene_model::Event;
@@ -28,6 +29,7 @@ pub fn run_scoped<R: Threads + Wait + Sync>(
     ensures { IfOk result (λ r. IsOfBoth r.0 r.1.entries.items first.now second.now) }
 {
     cross_threads();
+    events_cross();
     let Ok((hub, mut whole)) = Hub::new(alloc, peer) else {
         return Err(HubStop::OutOfMemory);
     };
