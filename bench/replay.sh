@@ -6,6 +6,7 @@
 # The scene has SIZE fixed nodes, each with two properties; it is read and nothing else. The session has CLIENTS
 # clients (8), SIZE spawns at the server, a delivery of each of them at each client, and a report of each client.
 # It runs over a scene of one fixed node, and over one in which the spawner stands behind SIZE others.
+# The sets are fifty times SIZE, of one property or the other of SIZE fixed nodes, with no client.
 # Each is timed at half the size too. Of REPEATS runs (3) the fastest counts, and the time of a scene of one node is
 # taken off. It prints the times, their ratios, and the peak memory.
 # It builds nothing: `rt ci`, or `rt run` in crates/godot_mp_cli, makes the program first. PROGRAM names another
@@ -55,6 +56,15 @@ def session_of(count, others):
     return "".join(lines), connects + spawns + deliveries + reports
 
 
+def sets_of(count):
+    """The lines of a session in which the server sets properties of so many nodes, and how many lines it must write."""
+    lines = [scene_of(count)]
+    for i in range(50 * count):
+        name, value = ("health", i) if i % 2 else ("label", "node %d" % (i % 1000))
+        lines.append(compact(["op", 1, ["set", "node%d" % (i * 7 % count), name, value]]))
+    return "".join(lines), 50 * count
+
+
 def run(text, lines, folder):
     """The seconds of the fastest of some runs, and the peak memory in KB. Each run must write so many lines."""
     source, sink = os.path.join(folder, "in"), os.path.join(folder, "out")
@@ -99,6 +109,8 @@ with tempfile.TemporaryDirectory() as folder:
     idle, _ = run(scene_of(1), 0, folder)
     print("starting, and a scene of one node: %.3f s" % idle, flush=True)
     measure("scene with nodes", lambda count: (scene_of(count), 0), folder, idle)
+    sets = measure("session with sets, fifty to a node, and nodes", sets_of, folder, idle)
+    print("    microseconds a set: %.2f" % (sets / (50 * size) * 1e6), flush=True)
     session = measure("session with %d clients and spawns" % clients, lambda count: session_of(count, 0), folder, idle)
     print("    microseconds a spawn and client: %.2f" % (session / (size * clients) * 1e6), flush=True)
     measure("session over a large scene with %d clients and spawns" % clients, lambda count: session_of(count, count), folder, idle)

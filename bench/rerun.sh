@@ -71,7 +71,9 @@ with tempfile.TemporaryDirectory() as folder:
     for count in (size // 2, size):
         spent = []
         for command, text in (("replay", session(count)), ("rerun", journal(count))):
-            seconds, peak = run(command, text, count, folder)
+            # a session answers the line that asks for the report too
+            done = count + 1 if command == "replay" else count
+            seconds, peak = run(command, text, done, folder)
             spent.append(max(seconds - idle, 1e-6))
             print("%s of %d events: %.3f s (%.1f MB of input, peak memory %d KB)" % (command, count, spent[-1], len(text) / 1e6, peak), flush=True)
         print("    a journal takes %.2f of the time of a session" % (spent[1] / spent[0]), flush=True)

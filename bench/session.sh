@@ -1,11 +1,13 @@
 #!/usr/bin/env bash
 # Times the proved program where rows come and go.
 #
-#   bench/session.sh [SIZE]      SIZE rows (1000; at most 2000), and half as many
+#   bench/session.sh [SIZE]      SIZE rows (1000, which is the most), and half as many
 #
 # Hidden and shown: CLIENTS clients (8) are there, the server spawns SIZE rows, and ROUNDS times (10) each row is
 # made not public and then public again. Late joiners: the server spawns twice SIZE rows, and JOINERS clients (64)
-# connect after that. Each is timed at half the size too. Of REPEATS runs (3) the fastest counts, and the time of a
+# connect after that. Changed: the clients have SIZE rows, and FRAMES times (50) a tenth of the rows is set, a frame is
+# run, and what it tells is delivered. Unchanged: the clients have four times SIZE rows, and four times FRAMES frames
+# are run in which nothing changed. Each is timed at half the size too. Of REPEATS runs (3) the fastest counts, and the time of a
 # scene alone is taken off. It prints the times, their ratios, and the peak memory.
 # It builds nothing: `rt ci`, or `rt run` in crates/godot_mp_cli, makes the program first. PROGRAM names another
 # program to be measured. It needs python3.
@@ -15,19 +17,20 @@ size=${1:-1000}
 clients=${CLIENTS:-8}
 joiners=${JOINERS:-64}
 rounds=${ROUNDS:-10}
+frames=${FRAMES:-50}
 repeats=${REPEATS:-3}
-usage="usage: bench/session.sh [SIZE], with SIZE from 2 to 2000, CLIENTS and JOINERS from 1 to 64, ROUNDS and REPEATS from 1"
-for number in "$size" "$clients" "$joiners" "$rounds" "$repeats"; do
+usage="usage: bench/session.sh [SIZE], with SIZE from 2 to 1000, CLIENTS and JOINERS from 1 to 64, ROUNDS, FRAMES and REPEATS from 1"
+for number in "$size" "$clients" "$joiners" "$rounds" "$frames" "$repeats"; do
     is_count "$number" || stop 2 "$usage"
 done
-[ "$size" -ge 2 ] && [ "$size" -le 2000 ] && [ "$clients" -le 64 ] && [ "$joiners" -le 64 ] || stop 2 "$usage"
+[ "$size" -ge 2 ] && [ "$size" -le 1000 ] && [ "$clients" -le 64 ] && [ "$joiners" -le 64 ] || stop 2 "$usage"
 find_program godot_mp_cli
 need_python
-exec python3 - "$program" "$size" "$clients" "$joiners" "$rounds" "$repeats" <<'P'
+exec python3 - "$program" "$size" "$clients" "$joiners" "$rounds" "$frames" "$repeats" <<'P'
 import json, os, subprocess, sys, tempfile, time
 
 program = sys.argv[1]
-size, clients, joiners, rounds, repeats = map(int, sys.argv[2:])
+size, clients, joiners, rounds, frames, repeats = map(int, sys.argv[2:])
 
 
 def compact(value):
@@ -61,6 +64,36 @@ def late_joiners(count):
     rows = 2 * count
     lines = [spawn(i) for i in range(rows)] + [compact(["connect"])] * joiners
     return scene + "".join(lines), rows + joiners * (2 + rows)
+
+
+def shown(rows):
+    """The lines by which the clients get so many rows, and how many lines they must write."""
+    lines = [compact(["connect"])] * clients + [spawn(i) for i in range(rows)]
+    return lines, 2 * clients + rows * (1 + clients)
+
+
+def delivered(packets):
+    """The lines that deliver so many packets to each client."""
+    return [compact(["rel", 1, 2 + i]) for i in range(clients)] * packets
+
+
+def changed(count):
+    """The lines of a session in which frames tell some rows of many, and how many lines it must write."""
+    lines, told = shown(count)
+    lines += delivered(count)
+    told += count * clients
+    few = max(count // 10, 1)
+    for turn in range(frames):
+        lines += [compact(["op", 1, ["set", "s/n%d" % ((turn * few + i) % count), "v", 100000 + turn]]) for i in range(few)]
+        lines += [compact(["op", 1, ["frame"]])] + delivered(few)
+        told += few + 1 + 2 * few * clients
+    return scene + "".join(lines), told
+
+
+def unchanged(count):
+    """The lines of a session in which frames tell nothing, and how many lines it must write."""
+    lines, told = shown(4 * count)
+    return scene + "".join(lines + [compact(["op", 1, ["frame"]])] * (4 * frames)), told + 4 * frames
 
 
 def run(text, lines, folder):
@@ -107,4 +140,6 @@ with tempfile.TemporaryDirectory() as folder:
     print("starting, and the scene: %.3f s" % idle, flush=True)
     measure("rows hidden and shown %d times before %d clients" % (rounds, clients), hidden_and_shown, folder, idle)
     measure("%d late joiners of twice as many rows" % joiners, late_joiners, folder, idle)
+    measure("%d frames in which a tenth of the rows changed, told to %d clients" % (frames, clients), changed, folder, idle)
+    measure("%d frames over four times as many rows in which nothing changed, before %d clients" % (4 * frames, clients), unchanged, folder, idle)
 P

@@ -3,8 +3,8 @@
 #
 #   examples/run.sh [SESSION]
 #
-# SESSION is a file, or the name of a session of this folder: first (one spawn, what is played without a name) or
-# arena (two spawners, three scenes, a server and two clients).
+# SESSION is a file, or the name of a session of this folder: first (one spawn, what is played without a name), arena
+# (two spawners, three scenes, a server and two clients), late_joiner, or health (values that change).
 # It runs the program that GODOT_MP_CLI names, else the proved one where it stands, else one that `rt try` makes.
 set -u
 here=$(cd "$(dirname "$0")" && pwd)

@@ -99,11 +99,11 @@ module _ {E K : Type 0} where
       let met : all.met ≡ a.mine ++ b.mine = l.met ∙ ap₂ (λ (x y : List ℕ). x ++ (b.mine ++ y)) one_met (t.met ∙ wn) ∙ ap (λ (x : List ℕ). a.mine ++ x) (append-nil b.mine) in
       shuffled_at j a.mine b.mine (map entry es) (map entry fs) (within a j first s.rises) (within b j second t.rises)
       (λ p h below.
-          let x : times p all.mine ≡ 0 = ap (times p) mine in
-          let y : times p all.met ≡ times p (a.mine ++ b.mine) = ap (times p) met in
-          let z = times-append p a.mine b.mine in
-          let q = pl p in
-          let u = upto_has (length j) p below in omega (arith, x, y, z, q, u))
+      let x : times p all.mine ≡ 0 = ap (times p) mine in
+      let y : times p all.met ≡ times p (a.mine ++ b.mine) = ap (times p) met in
+      let z = times-append p a.mine b.mine in
+      let q = pl p in
+      let u = upto_has (length j) p below in omega (arith, x, y, z, q, u))
       (its_entries v a j es vm s first)
       (its_entries w b j fs wm t second)
 

@@ -113,21 +113,21 @@ module _ {A : Type 0} where
       let next : (n : ℕ) → slice_get j n ≡ g (k + 1 + n) = λ n. at (suc n) ∙ ap g (omega arith) in
       elim (first_of k b ps l h) [
         | inl f ↦
-          elim (first_of k b qs l i) [
-            | inl s ↦ absurd (not_both k b f.0 s.0 l (subst (λ (m : List ℕ). Once k b (k ∷ f.0) m) s.1 (subst (λ (m : List ℕ). Once k b m qs) f.1 o)))
-            | inr s ↦
-              let t = reads_first g k f.0 d xs here (subst (λ (m : List ℕ). Reads g m xs) f.1 r) in
-              subst (λ (m : List A). Shuffle (d ∷ j) m ys) (sym t.1)
-              (by_first d j t.0 ys (shuffled_from g j (k + 1) f.0 qs t.0 ys next (subst (Rises (k + 1) f.0) end f.2) (subst (Rises (k + 1) qs) end s) (subst (λ (n : ℕ). Once (k + 1) n f.0 qs) end (once_first k b f.0 qs (subst (λ (m : List ℕ). Once k b m qs) f.1 o))) t.2 q))
-          ]
+            elim (first_of k b qs l i) [
+              | inl s ↦ absurd (not_both k b f.0 s.0 l (subst (λ (m : List ℕ). Once k b (k ∷ f.0) m) s.1 (subst (λ (m : List ℕ). Once k b m qs) f.1 o)))
+              | inr s ↦
+                  let t = reads_first g k f.0 d xs here (subst (λ (m : List ℕ). Reads g m xs) f.1 r) in
+                  subst (λ (m : List A). Shuffle (d ∷ j) m ys) (sym t.1)
+                  (by_first d j t.0 ys (shuffled_from g j (k + 1) f.0 qs t.0 ys next (subst (Rises (k + 1) f.0) end f.2) (subst (Rises (k + 1) qs) end s) (subst (λ (n : ℕ). Once (k + 1) n f.0 qs) end (once_first k b f.0 qs (subst (λ (m : List ℕ). Once k b m qs) f.1 o))) t.2 q))
+            ]
         | inr f ↦
-          elim (first_of k b qs l i) [
-            | inl s ↦
-              let t = reads_first g k s.0 d ys here (subst (λ (m : List ℕ). Reads g m ys) s.1 q) in
-              subst (λ (m : List A). Shuffle (d ∷ j) xs m) (sym t.1)
-              (by_second d j xs t.0 (shuffled_from g j (k + 1) ps s.0 xs t.0 next (subst (Rises (k + 1) ps) end f) (subst (Rises (k + 1) s.0) end s.2) (subst (λ (n : ℕ). Once (k + 1) n ps s.0) end (once_second k b ps s.0 (subst (λ (m : List ℕ). Once k b ps m) s.1 o))) r t.2))
-            | inr s ↦ absurd (not_none k b ps qs l f s o)
-          ]
+            elim (first_of k b qs l i) [
+              | inl s ↦
+                  let t = reads_first g k s.0 d ys here (subst (λ (m : List ℕ). Reads g m ys) s.1 q) in
+                  subst (λ (m : List A). Shuffle (d ∷ j) xs m) (sym t.1)
+                  (by_second d j xs t.0 (shuffled_from g j (k + 1) ps s.0 xs t.0 next (subst (Rises (k + 1) ps) end f) (subst (Rises (k + 1) s.0) end s.2) (subst (λ (n : ℕ). Once (k + 1) n ps s.0) end (once_second k b ps s.0 (subst (λ (m : List ℕ). Once k b ps m) s.1 o))) r t.2))
+              | inr s ↦ absurd (not_none k b ps qs l f s o)
+            ]
       ]
 
   -- a journal whose places are those of two callers, each once, is what they have there, shuffled

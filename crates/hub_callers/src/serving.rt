@@ -23,13 +23,7 @@ pub struct Served {
 }
 
 /// Enters the events in order by a seat of its own, up to the first that is refused.
-pub fn serve<R: Wait>(
-    rt: &R,
-    alloc: Global,
-    hub: &Hub,
-    mut seat: Seat,
-    events: &[Event],
-) -> Served
+pub fn serve<R: Wait>(rt: &R, alloc: Global, hub: &Hub, mut seat: Seat, events: &[Event]) -> Served
     requires own { seat.hub ≡ hub.now }
     requires fresh { seat.mine ≡ [] }
     requires may { All MayEnter events.now }

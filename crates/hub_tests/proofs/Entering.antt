@@ -9,12 +9,12 @@ use Rattle.shared_hub.specs.Peer.{MayEnter}
 
 pub may_come : (b : ℤ) → MayEnter (Up b)
 unfolding MayEnter
-may_come b = refl, refl
+may_come b = (refl, refl)
 
 pub may_set : (path prop : List ℕ) (v : Variant) → is_sound v ≡ true → MayEnter (Op (Set path prop v))
 unfolding MayEnter
-may_set path prop v h = refl, h
+may_set path prop v h = (refl, h)
 
 pub may_spawn : (spawner scene name prop : List ℕ) (v : Variant) → is_sound v ≡ true → MayEnter (Op (Spawn (record { spawner = spawner; scene = Some scene; name = name; sets = record { name = prop; value = v } ∷ []; arg = None })))
 unfolding MayEnter
-may_spawn spawner scene name prop v h = refl, and_from (is_sound v) true h refl
+may_spawn spawner scene name prop v h = (refl, and_from (is_sound v) true h refl)

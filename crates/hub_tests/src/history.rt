@@ -1,5 +1,6 @@
 //! One caller that acts by two seats: each call once, with ample memory.
 use crate::peers::{comes_up, has_nine, server, set_nine, spawn_five, spawner};
+use scene_model::OutList;
 use shared_hub::{Did, Hub, HubStop, Look};
 use std::test::*;
 
@@ -39,6 +40,16 @@ const SHOWN: [u8; 27] = [
     4, 0, 1, 0, 0, 0, 1, 0, 0, 0, 1, 0, 0, 0, 3, 0, 0, 0, 2, 0, 0, 0, b'p', b'1', 0, 2, 5,
 ];
 
+/// Whether these are the packet of the spawned node, for the client, and nothing else.
+fn is_shown(out: &OutList) -> bool {
+    match out.get(0) {
+        Some(packet) => out.len() == 1
+            && packet.link == 2
+            && packet.bytes.as_slice() == SHOWN.as_slice(),
+        None => false,
+    }
+}
+
 #[test]
 fn what_one_seat_entered_another_takes_out(rt: HostRuntime) -> Result<(), Fail> {
     let alloc = rt.alloc();
@@ -63,7 +74,7 @@ fn what_one_seat_entered_another_takes_out(rt: HostRuntime) -> Result<(), Fail> 
     assert!(rt; matches!(shown, Ok(ref answer) if answer.place == 1));
     assert_eq!(rt; hub.behind(&rt, &mut s, 2), 27);
     let out = hub.take_out(&rt, alloc, &mut t, 2);
-    assert!(rt; matches!(out, Ok(ref out) if out.len() == 1 && out[0].link == 2 && out[0].bytes.as_slice() == SHOWN.as_slice()));
+    assert!(rt; matches!(out, Ok(ref out) if is_shown(out)));
     assert_eq!(rt; hub.look(&rt, &mut s).entries, 3);
     assert_eq!(rt; hub.behind(&rt, &mut s, 2), 0);
     hub.meet(&mut s, t);

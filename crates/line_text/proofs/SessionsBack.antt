@@ -13,7 +13,7 @@ use Rattle.session_text.specs.Json.{int_of}
 use Rattle.line_text.specs.declared.sessions.SessionLine.TheVariants as line
 use Rattle.line_text.specs.Parts.{word_read, nat_read, bool_read, array_read, none_of, one_of, two_of, three_of, two_read}
 use Rattle.line_text.specs.Peers.{peer_read}
-use Rattle.line_text.specs.Operations.{first_of, worded_read, four_of, setting_read, spawn_read, custom_spawn_read, despawn_read, sync_read, public_read, for_read, filter_read, set_read, op_by, op_read}
+use Rattle.line_text.specs.Operations.{first_of, worded_read, four_of, setting_read, spawn_read, custom_spawn_read, despawn_read, sync_read, public_read, for_read, filter_read, frame_read, set_read, op_by, op_read}
 use Rattle.line_text.specs.Sessions.{connect_read, down_read, at_peer_read, rel_read, report_read, line_by, line_read}
 use Rattle.line_text.specs.Held.{held, prop_names, prop_values, op_values, is_peer, is_place, IsGiven}
 use Rattle.line_text.specs.WrittenLines.{setting_data, sync_data, op_data, session_data, has_bytes, ReadsSessions}
@@ -97,6 +97,10 @@ filter_back : (path : List ℕ) (k : ℕ) (peers : List ℤ) → is_text path �
 unfolding op_read op_by worded_read first_of filter_read two_of array_read word_read
 filter_back path k peers a b c = rw (sync_back path k a b, list_back peer_read int_of is_peer peer_back peers c) refl
 
+frame_back : op_read (op_data op.Frame) ≡ Ok op.Frame
+unfolding op_read op_by worded_read first_of frame_read none_of array_read word_read
+frame_back = refl
+
 pub op_back : (o : Op) → IsGiven o → list_all has_bytes (op_values o) ≡ true → op_read (op_data o) ≡ Ok o
 op_back (op.Spawn s) given bytes = plain_spawn_back s.spawner s.scene s.name s.sets s.arg given.spawn.0 given.spawn.1 given.texts given.values bytes
 op_back (op.Set path prop v) given bytes =
@@ -112,7 +116,7 @@ op_back (op.For path k peer on) given bytes = for_back path k peer on (and_parts
 op_back (op.Filter path k peers) given bytes = filter_back path k peers (and_parts (is_text path) (list_all is_text []) given.texts).0 (and_parts (is_place k) (list_all is_place []) given.places).0 given.peers
 op_back (op.Call c) given bytes = absurd (false≢true given.built)
 op_back (op.Raw to class b) given bytes = absurd (false≢true given.built)
-op_back op.Frame given bytes = absurd (false≢true given.built)
+op_back op.Frame given bytes = frame_back
 
 down_back : (p : ℤ) → is_peer p ≡ true → line_read (session_data (line.Event (event.Down p))) ≡ Ok (line.Event (event.Down p))
 unfolding line_read line_by worded_read first_of array_read word_read down_read one_of

@@ -64,11 +64,10 @@ is_peer (negsuc n) = false
 abbrev pub is_place : ℕ → Bool
 is_place k = nat_le k 4294967295
 
--- whether an operation is one of those that are built: all but calls, raw packets and frames
+-- whether an operation is one of those that are built: all but calls and raw packets
 abbrev pub is_built_op : Op → Bool
 is_built_op (op.Call c) = false
 is_built_op (op.Raw to class bytes) = false
-is_built_op op.Frame = false
 is_built_op o = true
 
 -- a spawn has a scene and no argument, a custom one no scene, no settings and an argument

@@ -9,7 +9,7 @@ use Rattle.scene_model.specs.declared.event.Op.TheVariants as op
 use Rattle.program_edge.specs.declared.status.LineWhy.{LineWhy}
 use Rattle.program_edge.specs.declared.status.LineWhy.TheVariants.{Shape, Name, NotBuilt}
 use Rattle.line_text.specs.Reading.{Reading, ◌>>=◌}
-use Rattle.line_text.specs.Parts.{word_read, text_read, bool_read, nat_read, array_read, one_of, two_of, two_read, three_of, list_read}
+use Rattle.line_text.specs.Parts.{word_read, text_read, bool_read, nat_read, array_read, none_of, one_of, two_of, two_read, three_of, list_read}
 use Rattle.line_text.specs.Peers.{peer_read}
 use Rattle.line_text.specs.Values.{value_read}
 
@@ -111,9 +111,15 @@ filter_read items = do
   peers ← list_read peer_read ds.1
   Ok (op.Filter y.0 y.1 peers)
 
+-- a frame: nothing stands behind the word
+unfoldable pub frame_read : Items → Result Op LineWhy
+frame_read items = do
+  _ ← none_of items
+  Ok op.Frame
+
 -- the words of operations that aren't built yet
 abbrev pub later_ops : List (List ℕ)
-later_ops = codes "call" ∷ codes "raw" ∷ codes "frame" ∷ []
+later_ops = codes "call" ∷ codes "raw" ∷ []
 
 -- an operation by its word, of what stands behind the word
 unfoldable pub op_by : List ℕ → Items → Result Op LineWhy
@@ -125,6 +131,7 @@ op_by word items =
     else if bytes_eq word (codes "public") then public_read items
     else if bytes_eq word (codes "for") then for_read items
     else if bytes_eq word (codes "filter") then filter_read items
+    else if bytes_eq word (codes "frame") then frame_read items
     else if has_text word later_ops then Err NotBuilt
     else Err Name
 

@@ -7,9 +7,9 @@ ghost use Rattle.gd_variant.specs.Sound.{is_text, is_sound};
 ghost use Rattle.line_text.specs.Reading.{Gives, each_read};
 ghost use Rattle.line_text.specs.Parts.{list_read};
 ghost use Rattle.line_text.specs.Held.{IsGiven, prop_names, prop_values};
-ghost use Rattle.line_text.specs.Operations.{custom_spawn_read, despawn_read, first_of, four_of, later_ops, op_by, op_read, set_read, setting_read, spawn_read, worded_read};
+ghost use Rattle.line_text.specs.Operations.{custom_spawn_read, despawn_read, first_of, four_of, frame_read, later_ops, op_by, op_read, set_read, setting_read, spawn_read, worded_read};
 
-use crate::parts::{array_of, one_of, pair_of, three_of, whole_text_of, word_of};
+use crate::parts::{array_of, none_of, one_of, pair_of, three_of, whole_text_of, word_of};
 use crate::sights::{filter_of, for_of, public_of};
 use crate::values::value_of;
 use program_edge::{LineStop, LineWhy};
@@ -150,11 +150,20 @@ fn set_of(alloc: Global, items: &[Value]) -> Result<Op, LineStop>
     Ok(Op::Set { path, prop, value })
 }
 
+#[tactic(auto, unfolding(crate::specs::Operations::frame_read))]
+fn frame_of(items: &[Value]) -> Result<Op, LineStop>
+    ensures gives { Gives (λ op. op) result (frame_read (items_view items.now)) }
+    ensures given { IfOk result IsGiven }
+{
+    none_of(items)?;
+    Ok(Op::Frame)
+}
+
 /// Whether an operation of this word isn't built yet.
 fn is_later_op(word: &str) -> bool
     ensures { result ≡ has_text word.now later_ops }
 {
-    word == "call" || word == "raw" || word == "frame"
+    word == "call" || word == "raw"
 }
 
 /// An operation by its word, of what stands behind the word.
@@ -171,6 +180,7 @@ fn op_by(alloc: Global, word: &str, items: &[Value]) -> Result<Op, LineStop>
         "public" => public_of(alloc, items),
         "for" => for_of(alloc, items),
         "filter" => filter_of(alloc, items),
+        "frame" => frame_of(items),
         _ if is_later_op(word) => Err(LineStop::LineBad(LineWhy::NotBuilt)),
         _ => Err(LineStop::LineBad(LineWhy::Name)),
     }

@@ -110,8 +110,8 @@ fn line_of(alloc: Global, value: &Value) -> Result<SessionLine, LineStop>
 /// What a line of a session asks for: `["connect"]`, `["down",p]`, `["op",p,OP]`, `["rel",a,b]` or
 /// `["report",p]`, where each of p, a and b is the number of a peer, and OP is one of
 /// `["spawn",spawner,scene,name,[[property,value]]]`, `["custom",spawner,name,value]`, `["despawn",path]`,
-/// `["set",path,property,value]`, `["public",[path,k],on]`, `["for",[path,k],p,on]` and
-/// `["filter",[path,k],[p]]`; `[path,k]` is the synchronizer at place k of the node at the path, from 0.
+/// `["set",path,property,value]`, `["public",[path,k],on]`, `["for",[path,k],p,on]`,
+/// `["filter",[path,k],[p]]` and `["frame"]`; `[path,k]` is the synchronizer at place k of the node at the path, from 0.
 ///
 /// `LineBad` has the first thing wrong. The word of a line or of an operation is judged before the length,
 /// so `NotBuilt` comes at a word that isn't read yet, whatever stands behind it.

@@ -1,5 +1,5 @@
 -- From what the code of a step says of its parts to what the step makes.
-use Rattle.std.proofs.Common.{◌≡◌, ℕ, ◌<◌, is_some, ℤ, pos, List, length, subst, [], ◌∷◌, refl, sym, ap, ap₂, ◌∙◌, Option, Some, None, Result, Ok, Err}
+use Rattle.std.proofs.Common.{◌≡◌, ℕ, ◌+◌, ◌++◌, ◌<◌, is_some, ℤ, pos, List, length, subst, [], ◌∷◌, refl, sym, ap, ap₂, ◌∙◌, Option, Some, None, Result, Ok, Err}
 use Rattle.std.specs.Prelude.{IfOk, OnOk, MatchOption, slice_get, slice_index_or, ◌&&◌, ◌||◌, not, if◌then◌else◌, true, false, Bool}
 use Rattle.std.specs.List.{slice_set}
 use Rattle.std.specs.Ordering.{int_eq}
@@ -17,8 +17,8 @@ use Rattle.peer_steps.specs.Kept.{Kept, new_peer}
 use Rattle.peer_steps.specs.Steps.{Taken, taken, is_done}
 use Rattle.peer_core.specs.Forms.{packet_form}
 use Rattle.world_model.specs.Happens.{packets_in}
-use Rattle.world_model.specs.Answers.{has_no_link, peer_answer}
-use Rattle.world_steps.specs.Steps.{Client, Parts, Made, live_parts, place_of, has_peer, new_client, put_with, waiting_with, with_packets, left_after, with_client, unchanged, is_full, number_after, connect_as, connect_made, server_made, down_with, client_made, client_does, does_at, op_made, deliver_down, deliver_up, delivers_of, delivers_at, rel_made, IsTaken}
+use Rattle.world_model.specs.Answers.{effects_in, has_no_link, peer_answer, step_of}
+use Rattle.world_steps.specs.Steps.{Client, Parts, Made, live_parts, place_of, has_peer, new_client, put_with, waiting_with, with_packets, left_after, with_client, unchanged, is_full, number_after, connect_as, connect_made, connect_with, server_made, down_with, client_made, client_does, does_at, op_made, deliver_down, deliver_up, delivers_of, delivers_at, rel_made, IsTaken}
 use Rattle.world_steps.proofs.Links.{some_same}
 use Rattle.world_steps.proofs.Lists.{set_same}
 use Rattle.world_steps.proofs.Places.{client_there}
@@ -177,6 +177,27 @@ new_client_is s n id p k o ds ss xs named fresh step down start sent =
     ap (λ m. record { number = m; kept = k; down = ds; up = xs }) named
     ∙ ap₂ (λ ys zs. record { number = id; kept = k; down = ys; up = zs }) down (sent ∙ ap (λ ws. waiting_with ws (packets_in o) server) start)
     ∙ ap (λ (t : Taken). new_client id t.kept (packets_in t.outcome)) (step ∙ ap (λ q. taken packet_form q (event.Up server)) fresh)
+
+-- what a new client does as the server's link comes up at it
+abbrev pub met : Scene → ℤ → Taken
+met s id = taken packet_form (new_peer s id) (event.Up server)
+
+-- a link to a new client came up at both ends
+pub connected : {E : Type 0} (r : Result WorldOutcome E) (k s : Kept) (come put n m : ℕ) (cs ds es : List Client) (w : Scene) (id seen : ℤ) (c : Client) (one two : Outcome) → seen ≡ id → w ≡ k.who.scene
+    → c ≡ new_client id (met w id).kept (packets_in (met w id).outcome) → two ≡ (met w id).outcome → record { outcome = one; kept = s } ≡ taken packet_form k (event.Up seen)
+    → n ≡ put_with put (packets_in one) → m ≡ put_with n (packets_in two) → ds ≡ cs ++ c ∷ [] → es ≡ with_packets (packets_in one) ds
+    → IfOk r (λ a. a ≡ answers.Done (Some id) (step_of server (effects_in one) ∷ step_of id (effects_in two) ∷ []))
+    → IfOk r (λ a. record { outcome = a; parts = live_parts s (come + 1) m es } ≡ connect_as (live_parts k come put cs) id)
+connected (Err z) k s come put n m cs ds es w id seen c one two same scene is does step first second pushed sent said = tt
+connected (Ok a) k s come put n m cs ds es w id seen c one two same scene is does step first second pushed sent said =
+    ap₂ (λ y zs. record { outcome = y; parts = live_parts s (come + 1) m zs }) said (sent ∙ ap (with_packets (packets_in one)) pushed)
+    ∙ ap (λ j. made_with j c two) (second ∙ ap (λ j. put_with j (packets_in two)) first)
+    ∙ ap₂ (λ d o. made_with (put_with (put_with put (packets_in one)) (packets_in o)) d o) is does
+    ∙ ap (λ z. connect_with (live_parts k come put cs) id (record { outcome = one; kept = s }) (met z id)) scene
+    ∙ ap (λ t. connect_with (live_parts k come put cs) id t (met k.who.scene id)) (step ∙ ap (λ z. taken packet_form k (event.Up z)) same)
+  where
+    made_with : ℕ → Client → Outcome → Made
+    made_with j d o = record { outcome = answers.Done (Some id) (step_of server (effects_in one) ∷ step_of id (effects_in o) ∷ []); parts = live_parts s (come + 1) j (with_packets (packets_in one) (cs ++ d ∷ [])) }
 
 -- a packet from a client, by the number that was asked for
 pub received_as : (e : Event) (p n : ℤ) (x : Out) → e ≡ received p x → n ≡ p → e ≡ received n x

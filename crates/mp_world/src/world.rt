@@ -1,16 +1,17 @@
 //! A server and its clients, with the links between them.
-ghost use Rattle.std.specs.Prelude.{◌≡◌, ◌≢◌, ℕ, ◌∷◌, [], List, true, false, ◌↔◌, IfOk, OnOk, OnErr, Err, Some, option_map};
+ghost use Rattle.std.specs.Prelude.{◌≡◌, ◌≢◌, ℕ, ℤ, ◌∷◌, [], List, true, false, ◌↔◌, IfOk, OnOk, OnErr, Err, Some, option_map};
 ghost use Rattle.scene_model.specs.declared.world.WorldEvent.{WorldEvent as EventOf};
 ghost use Rattle.scene_model.specs.Valid.{IsValidScene};
 ghost use Rattle.peer_core.specs.Forms.{packet_form};
 ghost use Rattle.world_model.specs.World.{is_in};
 ghost use Rattle.world_model.specs.Happens.{world};
 ghost use Rattle.world_model.specs.Answers.{happened, overflows, world_answer};
-ghost use Rattle.world_model.specs.Replicas.{reported};
+ghost use Rattle.world_model.specs.Replicas.{is_joined, reported};
 ghost use Rattle.mp_world.specs.declared.world.WorldStop.TheVariants as stop;
 ghost use Rattle.mp_world.specs.declared.world.ReportNo.TheVariants as report_no;
 ghost use Rattle.world_steps.specs.Sound.{has_sound_values, is_built_event};
 ghost use Rattle.world_steps.specs.Steps.{has_peer, is_over as is_past, is_spent, kept_at, kept_report, live_parts, made as made_of, scene_of};
+ghost use Rattle.world_steps.specs.Scripts.{TellsValues};
 ghost use Rattle.world_steps.specs.Stands.{StandsForScript};
 
 use crate::client::{Client, client_place};
@@ -216,6 +217,8 @@ impl World {
     /// What a peer holds.
     pub fn report(&self, alloc: Global, peer: i32) -> Result<Report, ReportNo>
         ensures report { (es : List EventOf) → StandsForScript self.now es → IfOk result (λ r. r ≡ reported packet_form (scene_of self.now) (world packet_form (scene_of self.now) es) peer) }
+        // once nothing is on the way from another peer, after a frame of it since which nothing changed, the report has each of its on-change values that this peer may see
+        ensures values { (es : List EventOf) (a : ℤ) → StandsForScript self.now es → is_joined (world packet_form (scene_of self.now) es) a peer ≡ true → IfOk result (TellsValues (scene_of self.now) (world packet_form (scene_of self.now) es) a peer) }
         ensures no_peer { (es : List EventOf) → StandsForScript self.now es → result ≡ Err report_no.NoPeer ↔ is_in (world packet_form (scene_of self.now) es) peer ≡ false }
         // it is spent exactly where the world is
         ensures was_spent { self.now.spent ≡ true → result ≡ Err report_no.Spent }

@@ -4,7 +4,6 @@ use Rattle.std.specs.Prelude.{slice_get, nat_le, nat_lt}
 use Rattle.std.proofs.lemmas.Bool.{true≢false, and_parts, leb-true, le-ltb}
 use Rattle.gd_variant.specs.Words.{has_int}
 use Rattle.scene_model.specs.declared.scene.Scene.{Scene}
-use Rattle.scene_model.specs.declared.event.Event.TheVariants as event
 use Rattle.scene_model.specs.declared.outcome.Outcome.{Outcome}
 use Rattle.scene_model.specs.declared.outcome.Outcome.TheVariants as outcome
 use Rattle.scene_model.specs.declared.outcome.Out.{Out}
@@ -22,7 +21,7 @@ use Rattle.peer_steps.specs.Kept.{Kept}
 use Rattle.peer_steps.specs.Steps.{taken, is_done}
 use Rattle.peer_core.specs.Forms.{packet_form}
 use Rattle.world_model.specs.World.{Came, World, peer_of, is_in, clients, bytes_in_flight, most_in_flight, has_room}
-use Rattle.world_model.specs.Happens.{packets_in, fed, happens, world, answer_at}
+use Rattle.world_model.specs.Happens.{packets_in, fed, happens, answer_at}
 use Rattle.world_model.specs.Answers.{refused_by, refused_or, accepted_answer, peer_answer, world_answer, happened, overflows}
 use Rattle.world_steps.specs.Steps.{Parts, Made, Client, has_peer, put_with, is_over, unchanged}
 use Rattle.world_steps.specs.Stands.{IsPeer, IsClient, HasParts}
@@ -31,7 +30,7 @@ use Rattle.world_steps.proofs.Runs.{heard_at, Members, up_is_client}
 use Rattle.world_steps.proofs.Joins.{Run}
 use Rattle.world_steps.proofs.Peers.{IsAnswered}
 use Rattle.world_steps.proofs.Places.{number_in, there_is, server_outside_of, all_once}
-use Rattle.world_steps.proofs.Keeping.{Keeps, Within, took}
+use Rattle.world_steps.proofs.Keeping.{Keeps, Within}
 use Rattle.world_steps.proofs.Flights.{Distinct, no_server, server_flies, client_flies, up_links, client_links, over_is, under_is, Counts, put_more, put_nothing}
 
 -- What is answered, whether it is over, and what is kept then where the event happened and isn't over.

@@ -8,7 +8,6 @@ use Rattle.gd_variant.specs.Words.{when}
 use Rattle.gd_variant.specs.declared.message.Message.TheVariants.{Plain as plain_packet}
 use Rattle.scene_model.specs.declared.scene.Scene.{Scene}
 use Rattle.scene_model.specs.declared.outcome.Fault.TheVariants as fault
-use Rattle.scene_model.specs.declared.outcome.Refusal.TheVariants.{NoPeer}
 use Rattle.scene_model.specs.declared.world.WorldEvent.TheVariants.{Rel}
 use Rattle.scene_model.specs.declared.world.WorldNo.TheVariants as refusal
 use Rattle.scene_model.specs.Valid.{IsValidScene}

@@ -29,24 +29,24 @@ use Rattle.peer_steps.specs.Arguments.{is_sound_argument}
 use Rattle.peer_steps.specs.Kept.{Kept, kept_tree}
 use Rattle.peer_steps.specs.Track.{shown_spawn, hidden_row}
 use Rattle.peer_steps.specs.Judged.{link_judged}
-use Rattle.peer_steps.specs.Steps.{taken, shown_answer, RowNews, appears, disappears, message_taken, linked_taken, read_taken, row_read}
+use Rattle.peer_steps.specs.Steps.{taken, shown_answer, RowNews, appears, disappears, changes, entries_taken, message_taken, linked_taken, read_taken, row_read}
 use Rattle.peer_core.specs.Forms.{packet_form}
 use Rattle.peer_steps.proofs.Whole.{kept_still}
 use Rattle.peer_steps.proofs.Clauses.{same_who, start_stands as new_peer_stands}
 use Rattle.world_model.specs.World.{World, is_in}
 use Rattle.world_model.specs.Happens.{world}
 use Rattle.world_model.specs.Answers.{has_no_link, peer_answer, world_answer, happened, overflows}
-use Rattle.world_model.specs.Replicas.{reported}
+use Rattle.world_model.specs.Replicas.{is_joined, reported}
 use Rattle.channel_laws.proofs.Links.{channels}
 use Rattle.world_steps.specs.Sound.{has_sound, has_sound_values, has_text_name, is_built_event, is_sound_event}
 use Rattle.world_steps.specs.Steps.{Parts, Made, Client, scene_of, first_parts, number_after, place_of, client_at, has_peer, put_with, waiting_with, with_packets, left_after, with_client as set_client, is_over, unchanged, is_full, connect_as, connect_made, server_made, down_with, down_made, client_made, client_does, does_at, op_made, deliver_down, deliver_up, delivers_of, delivers_at, rel_made, made, kept_at, kept_report, is_spent}
-use Rattle.world_steps.specs.Scripts.{Happened}
+use Rattle.world_steps.specs.Scripts.{Happened, TellsValues}
 use Rattle.world_steps.specs.Stands.{IsPeer, HasParts, StandsForScript, StepsAreRight}
 use Rattle.world_steps.proofs.Lists.{set_same}
 use Rattle.world_steps.proofs.Happenings.{runs}
 use Rattle.world_steps.proofs.Places.{client_there}
 use Rattle.world_steps.proofs.Places as places
-use Rattle.world_steps.proofs.Reports.{kept_same}
+use Rattle.world_steps.proofs.Reports.{kept_same, values_reported}
 use Rattle.world_steps.proofs.Flights.{put_nothing}
 use Rattle.world_steps.proofs.Answered.{RightAt, Before, not_happened}
 use Rattle.world_steps.proofs.Steps.{step_right}
@@ -126,6 +126,7 @@ message_happens : (k : Kept) (from p : ℤ) (n : Option RowNews) → happened (p
 message_happens k from p None = refl
 message_happens k from p (Some (appears m)) = shown_happens p (shown_spawn from m (kept_tree k)).0
 message_happens k from p (Some (disappears net)) = shown_happens p (hidden_row from net (kept_tree k)).0
+message_happens k from p (Some (changes ts)) = shown_happens p (entries_taken from ts (kept_tree k)).0
 
 linked_happens : (k : Kept) (from p : ℤ) (m : Message) (o : Option FaultOf) → happened (peer_answer p (linked_taken k from m o).outcome) ≡ true
 linked_happens k from p m (Some f) = refl
@@ -333,6 +334,12 @@ report_is (Ok x) v es p h said = by_kept (kept_at v p) refl said
     by_kept : (o : Option Kept) → kept_at v p ≡ o → option_map kept_report o ≡ Some x → x ≡ reported packet_form (scene_of v) (world packet_form (scene_of v) es) p
     by_kept None e k = absurd (cc k)
     by_kept (Some y) e k = let same : x ≡ kept_report y = cc k in same ∙ kept_same (scene_of v) es p y h.valid h.happened (kept_stands v es p y h e)
+
+-- and, with nothing in flight, after a frame since which nothing changed, a report has each on-change value of a joined peer that the peer may see
+pub values_are : {E : Type 0} (r : Result Report E) (v : Parts) (es : List WorldEvent) (a p : ℤ) → StandsForScript v es → IfOk r (λ x. x ≡ reported packet_form (scene_of v) (world packet_form (scene_of v) es) p) → is_joined (world packet_form (scene_of v) es) a p ≡ true
+    → IfOk r (TellsValues (scene_of v) (world packet_form (scene_of v) es) a p)
+values_are (Err e) v es a p h said joined = tt
+values_are (Ok x) v es a p h said joined = subst (TellsValues (scene_of v) (world packet_form (scene_of v) es) a p) (sym said) (values_reported (scene_of v) es a p h.valid h.happened joined)
 
 -- nobody is reported where nobody is
 pub nobody_is : (R : Type 0) (v : Parts) (es : List WorldEvent) (p : ℤ) → StandsForScript v es → R ↔ has_peer v p ≡ false → R ↔ is_in (world packet_form (scene_of v) es) p ≡ false

@@ -23,7 +23,7 @@ use Rattle.peer_steps.specs.Kept.{Kept}
 use Rattle.peer_steps.specs.Stands.{is_answered}
 use Rattle.peer_steps.specs.Steps.{taken}
 use Rattle.peer_core.specs.Forms.{packet_form}
-use Rattle.world_model.specs.World.{Parcel, Way, World, peer_of, is_in, clients, events_at, next_of, most_in_flight}
+use Rattle.world_model.specs.World.{Parcel, Way, World, peer_of, is_in, events_at, next_of, most_in_flight}
 use Rattle.world_model.specs.Happens.{packets_in, fed, brought_by, after_next, at_way, delivered, answer_at}
 use Rattle.world_model.specs.Answers.{has_no_link, refused_by, refused_or, accepted_answer, peer_answer, delivery_answer, world_answer, happened}
 use Rattle.channel_laws.specs.Channels.{waiting_on}

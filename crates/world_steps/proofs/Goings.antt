@@ -18,7 +18,7 @@ use Rattle.peer_laws.proofs.Tests.{not_false, no_row}
 use Rattle.peer_laws.proofs.Ups.{ups_go}
 use Rattle.peer_core.specs.Forms.{packet_form}
 use Rattle.world_model.specs.World.{World, peer_of, is_in, clients, heard_in}
-use Rattle.world_model.specs.Happens.{by_itself, happens, world}
+use Rattle.world_model.specs.Happens.{by_itself, happens}
 use Rattle.world_model.specs.Answers.{refused_by, accepted_answer, world_answer, happened}
 use Rattle.channel_laws.proofs.Origins.{not_refused}
 use Rattle.world_steps.proofs.Numbers.{number_of, not_server, server_outside, left_reversed}

@@ -1,5 +1,5 @@
 -- Each event of a script that happened, by what it makes of a world.
-use Rattle.std.proofs.Common.{◌≡◌, true, false, List, [], ◌∷◌, refl, sym}
+use Rattle.std.proofs.Common.{◌≡◌, true, List, [], ◌∷◌, refl, sym}
 use Rattle.std.proofs.lemmas.Bool.{true≢false}
 use Rattle.scene_model.specs.declared.scene.Scene.{Scene}
 use Rattle.scene_model.specs.declared.world.WorldEvent.{WorldEvent}
@@ -7,7 +7,7 @@ use Rattle.scene_model.specs.declared.world.WorldEvent.TheVariants.{Connect, Dow
 use Rattle.scene_model.specs.Valid.{IsValidScene}
 use Rattle.peer_core.specs.Forms.{packet_form}
 use Rattle.world_model.specs.World.{World}
-use Rattle.world_model.specs.Happens.{delivered, happens, world}
+use Rattle.world_model.specs.Happens.{happens, world}
 use Rattle.world_model.specs.Answers.{world_answer, happened}
 use Rattle.world_steps.specs.Sound.{is_built_event, is_sound_event}
 use Rattle.world_steps.specs.Scripts.{Happened}

@@ -23,7 +23,7 @@ use Rattle.peer_steps.specs.Steps.{Taken, taken}
 use Rattle.peer_core.specs.Forms.{packet_form}
 use Rattle.peer_steps.proofs.Clauses.{start_stands}
 use Rattle.world_model.specs.World.{Way, Came, World, peer_of, clients, next_client, events_at, heard_in, bytes_in_flight, most_in_flight}
-use Rattle.world_model.specs.Happens.{packets_in, by_itself, with_client, link_up, delivered, happens}
+use Rattle.world_model.specs.Happens.{packets_in, by_itself, with_client, link_up, happens}
 use Rattle.world_model.specs.Answers.{most_number, has_no_link, refused_or, effects_in, step_of, connect_answer}
 use Rattle.world_model.specs.Answers as model
 use Rattle.channel_laws.specs.Channels.{waiting_on}

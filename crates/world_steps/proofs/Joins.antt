@@ -10,7 +10,7 @@ use Rattle.scene_model.specs.declared.event.Op.{Op as Operation}
 use Rattle.scene_model.specs.declared.event.Op.TheVariants as op_of
 use Rattle.scene_model.specs.declared.event.Event.TheVariants as event
 use Rattle.scene_model.specs.declared.outcome.Refusal.{Refusal}
-use Rattle.scene_model.specs.declared.outcome.Refusal.TheVariants.{BadPeer, NoPeer, PeersFull}
+use Rattle.scene_model.specs.declared.outcome.Refusal.TheVariants.{BadPeer, PeersFull}
 use Rattle.scene_model.specs.declared.world.WorldEvent.TheVariants.{Connect, Op}
 use Rattle.scene_model.specs.declared.world.WorldOutcome.{WorldOutcome}
 use Rattle.scene_model.specs.declared.world.WorldNo.{WorldNo}
@@ -28,7 +28,7 @@ use Rattle.peer_laws.proofs.Told.{come_still_up}
 use Rattle.peer_laws.proofs.Ups.{ups_come, come_is_up}
 use Rattle.peer_core.specs.Forms.{packet_form}
 use Rattle.world_model.specs.World.{World, peer_of, is_in, clients, next_client, heard_in}
-use Rattle.world_model.specs.Happens.{path_called, by_itself, with_client, link_up, happens, world, answer_at}
+use Rattle.world_model.specs.Happens.{path_called, by_itself, with_client, link_up, happens, answer_at}
 use Rattle.world_model.specs.Answers.{is_full, refused_by, refused_or, accepted_answer, peer_answer, world_answer, happened}
 use Rattle.channel_laws.proofs.Origins.{not_refused}
 use Rattle.world_steps.specs.Sound.{is_sound_op}

@@ -3,12 +3,15 @@ pub mod Writable
 pub mod Links
 pub mod Lists
 pub mod Numbers
+pub mod Tellable
 pub mod Readable
 pub mod Runs
 pub mod Joins
 pub mod Arrivals
 pub mod Goings
 pub mod Happenings
+pub mod Framed
+pub mod Reported
 pub mod Pairs
 pub mod Reports
 pub mod Waiting

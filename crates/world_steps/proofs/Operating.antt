@@ -16,7 +16,7 @@ use Rattle.peer_laws.proofs.Numbers.{int_is}
 use Rattle.peer_laws.proofs.Tests.{or_true}
 use Rattle.peer_steps.specs.Steps.{Taken, taken}
 use Rattle.peer_core.specs.Forms.{packet_form}
-use Rattle.world_model.specs.World.{World, is_in, clients}
+use Rattle.world_model.specs.World.{World, is_in}
 use Rattle.world_model.specs.Happens.{packets_in, fed, by_itself}
 use Rattle.world_model.specs.Answers.{refused_or, accepted_answer, peer_answer, world_answer, happened}
 use Rattle.world_steps.specs.Steps.{Parts, Client, place_of, has_peer, with_packets, unchanged, server_made, client_made, client_does, does_at, op_made}

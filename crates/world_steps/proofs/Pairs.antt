@@ -9,21 +9,22 @@ use Rattle.std.proofs.lemmas.List.Elements.{filter-append}
 use Rattle.gd_variant.specs.Words.{has_int}
 use Rattle.gd_variant.specs.declared.message.Message.TheVariants.{AddPeer}
 use Rattle.gd_variant.specs.declared.message.Plain.{Plain}
-use Rattle.gd_variant.specs.declared.message.Plain.TheVariants.{Spawn as spawn_packet, Despawn as despawn_packet}
+use Rattle.gd_variant.specs.declared.message.Plain.TheVariants.{Spawn as spawn_packet, Despawn as despawn_packet, Delta as delta_packet}
 use Rattle.gd_variant.specs.declared.value.Variant.{Variant}
 use Rattle.scene_model.specs.declared.scene.Scene.{Scene}
 use Rattle.scene_model.specs.declared.event.Event.TheVariants as event
+use Rattle.scene_model.specs.declared.event.Op.TheVariants.{Frame}
 use Rattle.scene_model.specs.declared.world.WorldEvent.{WorldEvent}
 use Rattle.scene_model.specs.Syncs.{Syncer}
 use Rattle.scene_model.specs.Valid.{IsValidScene}
-use Rattle.peer_model.specs.Heard.{Who, Heard, comes, gets, is_server, received_from, server}
+use Rattle.peer_model.specs.Heard.{Who, Heard, comes, does, gets, is_server, received_from, server}
 use Rattle.peer_model.specs.Peers.{is_up, was_up, brings_up}
 use Rattle.peer_model.specs.Updates.{Update, Live, Replica, applied, replica_syncers}
 use Rattle.peer_model.specs.Changes.{changes}
 use Rattle.peer_model.specs.Ticks.{widened}
 use Rattle.peer_model.specs.Visible.{sees, visible_rows}
 use Rattle.peer_model.specs.Rows.{own_rows}
-use Rattle.peer_model.specs.View.{view, updates_in, updates_from, reach, sampled_values}
+use Rattle.peer_model.specs.View.{view, updates_in, updates_from, reach, report_of, sampled_values}
 use Rattle.peer_model.specs.Answer.{decided}
 use Rattle.peer_model.specs.Bytes.{outcome_of}
 use Rattle.peer_laws.specs.Built.{Accepts, AllAccepted, is_row_packet}
@@ -48,7 +49,10 @@ use Rattle.channel_laws.specs.Channels.{AllHappened, delivered_at, reliable_in, 
 use Rattle.channel_laws.proofs.Arrivals.{arrivals_are_posted}
 use Rattle.channel_laws.proofs.Links.{channels, own_of, own_first}
 use Rattle.world_steps.specs.Pairs.{content_of, made_for, first_hop, loose_between, loose_posted, Pair}
+use Rattle.world_steps.specs.Framed.{IsFramed, HasValues, ReportsValues}
 use Rattle.world_steps.specs.Scripts.{Happened, PairsHold, NoneIsFault}
+use Rattle.world_steps.proofs.Framed.{framed_values}
+use Rattle.world_steps.proofs.Reported.{reports_values}
 use Rattle.world_steps.proofs.Links.{IsLink, told_parcel, told_parcels, none_taken}
 use Rattle.world_steps.proofs.Runs.{heard_at, own_if, is_own_entry, Core, answer_by, heard_is, history_is}
 use Rattle.world_steps.proofs.Joins.{Run}
@@ -185,6 +189,7 @@ rows_have_no_ticks : (ps : List Plain) → list_all is_row_packet ps ≡ true �
 rows_have_no_ticks [] h = refl
 rows_have_no_ticks (spawn_packet scene spawner net syncs name arg values ∷ ps) h = rows_have_no_ticks ps h
 rows_have_no_ticks (despawn_packet net ∷ ps) h = rows_have_no_ticks ps h
+rows_have_no_ticks (delta_packet entries ∷ ps) h = rows_have_no_ticks ps h
 rows_have_no_ticks (p ∷ ps) h = absurd (cc (and_parts (is_row_packet p) (list_all is_row_packet ps) h).0)
 
 -- packets that were accepted
@@ -341,24 +346,17 @@ none_is_fault s valid es h a b joined direct p next =
 abbrev SeesWhole : Scene → World → ℤ → ℤ → List Heard → List Heard → Type 0
 SeesWhole s w a b here there = live_marks (view (peer_of s b) there a).rows ≡ own_marks (visible_rows (peer_of s a) here b)
 
+-- over a link on which nothing waits all arrived
+all_got : (s : Scene) (w : World) (a b : ℤ) → IsLink s a b (heard_at w a) (heard_at w b) (w.history b) (w.way a b) → is_delivered (w.way a b) ≡ true → updates_from (peer_of s b) (heard_at w b) a ≡ changes (peer_of s a) (heard_at w a) b
+all_got s w a b link quiet = link.got ∙ (let n : (w.way a b).delivered ≡ length us = eqb-true (w.way a b).delivered (length (w.way a b).sent) quiet ∙ ap length link.sent ∙ length-map us (told_parcel a b) in take_all (w.way a b).delivered us (omega (arith, n)))
+  where
+    us : List Update
+    us = changes (peer_of s a) (heard_at w a) b
+
 whole_directly : (s : Scene) (w : World) (a b : ℤ) → IsValidScene s → Run s w → IsJoined w a b → is_direct a b ≡ true → is_delivered (w.way a b) ≡ true → SeesWhole s w a b (heard_at w a) (heard_at w b)
 whole_directly s w a b valid h j direct quiet =
-    marks_settle s a b valid here (heard_at w b) (built_done (peer_of s a) here (h.core.accepted a)) (sender_up w b a h.members (link_back a b l) j.second j.first) (sender_up w a b h.members l j.first j.second) (link.got ∙ all_got)
-  where
-    here : List Heard
-    here = heard_at w a
-
-    us : List Update
-    us = changes (peer_of s a) here b
-
-    l : has_no_link a b ≡ false
-    l = link_from a b j.apart direct
-
-    link : IsLink s a b here (heard_at w b) (w.history b) (w.way a b)
-    link = h.core.links a b l
-
-    all_got : take (w.way a b).delivered us ≡ us
-    all_got = let n : (w.way a b).delivered ≡ length us = eqb-true (w.way a b).delivered (length (w.way a b).sent) quiet ∙ ap length link.sent ∙ length-map us (told_parcel a b) in take_all (w.way a b).delivered us (omega (arith, n))
+    let l = link_from a b j.apart direct in
+    marks_settle s a b valid (heard_at w a) (heard_at w b) (built_done (peer_of s a) (heard_at w a) (h.core.accepted a)) (sender_up w b a h.members (link_back a b l) j.second j.first) (sender_up w a b h.members l j.first j.second) (all_got s w a b (h.core.links a b l) quiet)
 
 pub whole_seen : (s : Scene) (w : World) (a b : ℤ) → IsValidScene s → Run s w → IsJoined w a b → is_quiet w a b ≡ true → SeesWhole s w a b (accepted_at packet_form s w a) (accepted_at packet_form s w b)
 whole_seen s w a b valid h j quiet =
@@ -371,6 +369,41 @@ whole_seen s w a b valid h j quiet =
         let unseen = never_known a (peer_of s b) (heard_at w b) ends.1 ends.0 (h.core.accepted b) in
         ap (λ (r : Replica). live_marks r.rows) (never_seen (peer_of s b) (heard_at w b) (h.core.accepted b) (facts (peer_of s b) (heard_at w b) valid (h.core.accepted b)) a unseen)
         ∙ sym (ap (λ t. own_marks (if t then filter (sees (peer_of s a) (heard_at w a) b) (own_rows (peer_of s a) (heard_at w a)) else [])) (up_if_was_not (heard_at w a) b (never_known b (peer_of s a) (heard_at w a) ends.0 ends.1 (h.core.accepted a))))
+
+-- the values that are seen
+
+-- A peer has each value of another that it may see: it sees it, and reports it.
+pub record KnowsValues (s : Scene) (a b : ℤ) (here there : List Heard) : Type 0 where
+  pub seen : HasValues (peer_of s a) here b (view (peer_of s b) there a)
+  pub reported : ReportsValues (peer_of s a) here b (report_of (peer_of s b) there)
+
+-- so it is after a frame since which nothing changed
+abbrev IfFramed : Scene → ℤ → ℤ → List Heard → List Heard → Type 0
+IfFramed s a b here there = IsFramed (peer_of s a) here b → KnowsValues s a b here there
+
+values_directly : (s : Scene) (w : World) (a b : ℤ) → IsValidScene s → Run s w → IsJoined w a b → is_direct a b ≡ true → is_delivered (w.way a b) ≡ true → IfFramed s a b (heard_at w a) (heard_at w b)
+values_directly s w a b valid h j direct quiet framed =
+    let l = link_from a b j.apart direct in
+    let up = sender_up w a b h.members l j.first j.second in
+    let seen = framed_values s a b valid (heard_at w a) (heard_at w b) (built_done (peer_of s a) (heard_at w a) (h.core.accepted a)) up (all_got s w a b (h.core.links a b l) quiet) framed in
+    record { seen = seen; reported = reports_values (peer_of s a) (heard_at w a) (peer_of s b) (heard_at w b) valid (h.core.accepted b) a j.apart up seen }
+
+-- a peer that never was up wasn't up at a frame
+never_framed : (s : Scene) (a b : ℤ) (here : List Heard) → int_eq a server ≡ false → int_eq b server ≡ false → AllAccepted (peer_of s a) here → IsFramed (peer_of s a) here b → ⊥
+never_framed s a b here first second all f =
+    true≢false (sym f.up ∙ up_if_was_not f.before b (never_known b (peer_of s a) f.before first second (accepted_before f.later (subst (AllAccepted (peer_of s a)) f.are all)).1))
+  where
+    accepted_before : (later : List Heard) → AllAccepted (peer_of s a) (later ++ does Frame ∷ f.before) → AllAccepted (peer_of s a) (does Frame ∷ f.before)
+    accepted_before [] k = k
+    accepted_before (e ∷ later) k = accepted_before later k.1
+
+pub values_known : (s : Scene) (w : World) (a b : ℤ) → IsValidScene s → Run s w → IsJoined w a b → is_quiet w a b ≡ true → IfFramed s a b (accepted_at packet_form s w a) (accepted_at packet_form s w b)
+values_known s w a b valid h j quiet =
+    subst (λ g. IfFramed s a b g (accepted_at packet_form s w b)) (sym (heard_is s w h.core a)) (subst (IfFramed s a b (heard_at w a)) (sym (heard_is s w h.core b)) (step (is_direct a b) refl))
+  where
+    step : (t : Bool) → is_direct a b ≡ t → IfFramed s a b (heard_at w a) (heard_at w b)
+    step true direct = values_directly s w a b valid h j direct (sym (ap (λ t. if t then is_delivered (w.way a b) else is_delivered (w.way a server) && is_delivered (w.way server b)) direct) ∙ quiet)
+    step false clients = λ framed. let ends = or_parts (int_eq a server) (int_eq b server) clients in absurd (never_framed s a b (heard_at w a) ends.0 ends.1 (h.core.accepted a) framed)
 
 -- what is seen of a joined peer is what the delivered prefix of its changes makes
 pub prefix_seen : (s : Scene) (w : World) (a b : ℤ) → IsValidScene s → Run s w → Pair packet_form s w a b → view (peer_of s b) (accepted_at packet_form s w b) a ≡ told_replica packet_form s w a b

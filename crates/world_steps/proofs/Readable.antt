@@ -17,26 +17,28 @@ use Rattle.scene_model.specs.Valid.{IsValidScene}
 use Rattle.peer_model.specs.Heard.{Who, Heard, does}
 use Rattle.peer_model.specs.Peers.{is_up}
 use Rattle.peer_model.specs.Rows.{OwnRow, own_rows, row_made, spawn_in, syncs_at}
-use Rattle.peer_model.specs.Visible.{sees, visible_rows}
+use Rattle.peer_model.specs.Visible.{own_syncers, sees, visible_rows, visible_to}
 use Rattle.peer_model.specs.Values.{own_value}
-use Rattle.peer_model.specs.Updates.{Update, Hide, Show, Tell, Replica, applied, all_spawn_props, custom_byte}
-use Rattle.peer_model.specs.Changes.{changes, is_frame, scene_byte, show_of, hides, shows, hides_and_shows, with_tells, numbers_of, live_numbers}
+use Rattle.peer_model.specs.Updates.{Update, Hide, Show, Tell, Replica, applied, apply_updates, all_spawn_props, custom_byte}
+use Rattle.peer_model.specs.Changes.{changes, scene_byte, show_of, hides, shows, hides_and_shows, tells, numbers_of, live_numbers}
 use Rattle.peer_model.specs.Refusals.{may_make}
-use Rattle.peer_laws.specs.Built.{Accepts, AllAccepted, is_built}
+use Rattle.peer_laws.specs.Built.{Accepts, AllAccepted}
 use Rattle.peer_laws.proofs.Each.{all_each, all-filter, all-put_by, every_joined, every_kept}
 use Rattle.peer_laws.proofs.Tests.{not_false, some_of, some_from}
 use Rattle.peer_laws.proofs.Told.{adds}
 use Rattle.peer_laws.proofs.ScenesByNumber.{spawner_few}
 use Rattle.peer_steps.specs.Arguments.{is_sound_argument}
-use Rattle.world_laws.specs.Marks.{Mark, nums_of, mark_before, shown_mark, marks_after, marks_then, new_rows}
+use Rattle.world_laws.specs.Marks.{Mark, nums_of, mark_before, own_marks, shown_mark, marks_after, marks_then, new_rows}
 use Rattle.world_laws.specs.Said.{Says}
-use Rattle.world_laws.proofs.Law.{built_done}
+use Rattle.world_laws.proofs.Frames.{part}
+use Rattle.world_laws.proofs.Law.{built_done, found}
 use Rattle.world_laws.proofs.Moving.{marks_move_on, numbers_marked}
 use Rattle.world_laws.proofs.Own.{allowed, leaves, own_later}
 use Rattle.world_laws.proofs.Saying.{IsSaid, own_said, changes_say}
 use Rattle.world_steps.specs.Sound.{has_sound, is_sound_op}
 use Rattle.world_steps.proofs.SoundValues.{is_sound_heard, own_sound}
 use Rattle.world_steps.proofs.Links.{IsReadable, AllReadable, adds_up}
+use Rattle.world_steps.proofs.Tellable.{IsFew, own_few, tells_read}
 use Rattle.world_steps.proofs.Writable.{is_small, good_small, none_bad, show_readable, hide_readable}
 
 -- own rows
@@ -175,38 +177,46 @@ hides_read (n ∷ ns) h = let parts = and_parts (is_small n) (list_all is_small 
 
 -- what any event adds
 
-no_frame : (e : Heard) → is_built e ≡ true → is_frame e ≡ false
-no_frame (does Frame) h = absurd (cc h)
-no_frame e h = refl
+module _ (who : Who) (es : List Heard) (e : Heard) (b : ℤ) (v : IsValidScene who.scene) (all : AllAccepted who (e ∷ es)) (sound : list_all is_sound_heard (e ∷ es) ≡ true) where
+  -- what the peer was told before makes this replica
+  abbrev before : Replica
+  before = applied who.scene who.id (changes who es b)
 
-adds_readable : (who : Who) (es : List Heard) (e : Heard) (b : ℤ) → IsValidScene who.scene → AllAccepted who (e ∷ es) → list_all is_sound_heard (e ∷ es) ≡ true → AllReadable (adds who e es b)
-adds_readable who es e b v all sound =
-    subst AllReadable (sym (ap (λ t. if t then with_tells who (e ∷ es) b r (hides_and_shows who (e ∷ es) b r) else hides_and_shows who (e ∷ es) b r) (no_frame e all.0.built)))
-    (every_joined IsReadable (hides r.rows seen) (shows who (e ∷ es) r.rows seen)
-    (hides_read (filter (λ n. not (has_nat n (numbers_of seen))) (live_numbers r.rows)) (all-filter is_small (λ n. not (has_nat n (numbers_of seen))) (live_numbers r.rows) small))
-    (shows_read who (e ∷ es) (filter (λ (x : OwnRow). not (has_nat x.num (live_numbers r.rows))) seen)
-    (every_kept (Reads who (e ∷ es)) (λ (x : OwnRow). not (has_nat x.num (live_numbers r.rows))) seen (seen_read who (e ∷ es) b (own_read who (e ∷ es) v all sound)))))
-  where
-    us : List Update
-    us = changes who es b
+  small : list_all is_small (live_numbers before.rows) ≡ true
+  small =
+      let ms = marks_then who.scene [] (changes who es b) in
+      ap (list_all is_small) (numbers_marked before.rows ∙ ap nums_of (marks_move_on who.scene who.id (applied who.scene who.id []) (changes who es b)))
+      ∙ list_all-map is_small (λ (m : Mark). m.num) ms ∙ marks_small who.scene who.id (changes who es b) [] (changes_say who v es (built_done who es all.1) b) refl
 
-    r : Replica
-    r = applied who.scene who.id us
+  both_readable : AllReadable (hides_and_shows who (e ∷ es) b before)
+  both_readable =
+      let seen = visible_rows who (e ∷ es) b in
+      every_joined IsReadable (hides before.rows seen) (shows who (e ∷ es) before.rows seen)
+      (hides_read (filter (λ n. not (has_nat n (numbers_of seen))) (live_numbers before.rows)) (all-filter is_small (λ n. not (has_nat n (numbers_of seen))) (live_numbers before.rows) small))
+      (shows_read who (e ∷ es) (filter (λ (x : OwnRow). not (has_nat x.num (live_numbers before.rows))) seen)
+      (every_kept (Reads who (e ∷ es)) (λ (x : OwnRow). not (has_nat x.num (live_numbers before.rows))) seen (seen_read who (e ∷ es) b (own_read who (e ∷ es) v all sound))))
 
-    seen : List OwnRow
-    seen = visible_rows who (e ∷ es) b
+-- a frame tells what differs too
+frame_readable : (who : Who) (es : List Heard) (b : ℤ) → IsValidScene who.scene → AllAccepted who (does Frame ∷ es) → list_all is_sound_heard (does Frame ∷ es) ≡ true → is_up (does Frame ∷ es) b ≡ true → AllReadable (adds who (does Frame) es b)
+frame_readable who es b v all sound up =
+    let now = does Frame ∷ es in
+    let done = built_done who now all in
+    let made = applied who.scene who.id (changes who es b) in
+    let us = hides_and_shows who now b made in
+    let ys = filter (visible_to who now b) (own_syncers who now) in
+    every_joined IsReadable us (tells who now b (apply_updates who.scene who.id made us)) (both_readable who es (does Frame) b v all sound)
+    (tells_read who now v all sound (own_marks (filter (sees who now b) (own_rows who now))) (apply_updates who.scene who.id made us) ys
+    (found who v (does Frame) es done b up made (part who es b v done up))
+    (every_kept IsFew (visible_to who now b) (own_syncers who now) (own_few who now v all)))
 
-    ms : List Mark
-    ms = marks_then who.scene [] us
-
-    small : list_all is_small (live_numbers r.rows) ≡ true
-    small = ap (list_all is_small) (numbers_marked r.rows ∙ ap nums_of (marks_move_on who.scene who.id (applied who.scene who.id []) us))
-        ∙ list_all-map is_small (λ (m : Mark). m.num) ms ∙ marks_small who.scene who.id us [] (changes_say who v es (built_done who es all.1) b) refl
+adds_readable : (who : Who) (es : List Heard) (e : Heard) (b : ℤ) → IsValidScene who.scene → AllAccepted who (e ∷ es) → list_all is_sound_heard (e ∷ es) ≡ true → is_up (e ∷ es) b ≡ true → AllReadable (adds who e es b)
+adds_readable who es (does Frame) b v all sound up = frame_readable who es b v all sound up
+adds_readable who es e b v all sound up = both_readable who es e b v all sound
 
 -- for a peer that isn't up too
 pub up_readable : (who : Who) (es : List Heard) (e : Heard) (b : ℤ) → IsValidScene who.scene → AllAccepted who es → list_all is_sound_heard es ≡ true → Accepts who es e → is_sound_heard e ≡ true → AllReadable (adds_up who e es b)
-up_readable who es e b v all sound a now = step (is_up (e ∷ es) b)
+up_readable who es e b v all sound a now = step (is_up (e ∷ es) b) refl
   where
-    step : (t : Bool) → AllReadable (if t then adds who e es b else [])
-    step true = adds_readable who es e b v (a, all) (and_from (is_sound_heard e) (list_all is_sound_heard es) now sound)
-    step false = tt
+    step : (t : Bool) → is_up (e ∷ es) b ≡ t → AllReadable (if t then adds who e es b else [])
+    step true up = adds_readable who es e b v (a, all) (and_from (is_sound_heard e) (list_all is_sound_heard es) now sound) up
+    step false down = tt

@@ -1,5 +1,5 @@
 -- What a peer reports is what the definitions report.
-use Rattle.std.proofs.Common.{◌≡◌, ℤ, Bool, true, false, List, ◌++◌, map, refl, sym, ap, ap₂, ◌∙◌}
+use Rattle.std.proofs.Common.{◌≡◌, ℤ, Bool, true, false, List, ◌++◌, map, refl, sym, ap, ap₂, ◌∙◌, subst}
 use Rattle.std.specs.Prelude.{option_map, if◌then◌else◌}
 use Rattle.std.specs.Ordering.{int_eq}
 use Rattle.gd_variant.specs.Words.{or_else}
@@ -20,13 +20,14 @@ use Rattle.peer_model.specs.Bytes.{accepted_events}
 use Rattle.world_model.specs.World.{World, peer_of, accepted_at, events_at}
 use Rattle.world_model.specs.Happens.{world}
 use Rattle.world_model.specs.Replicas.{is_joined, replica, rows_at, fixed_at, reported}
-use Rattle.world_steps.specs.Scripts.{Happened, ReplicasSettle}
+use Rattle.world_steps.specs.Framed.{ReportsValues}
+use Rattle.world_steps.specs.Scripts.{Happened, ReplicasSettle, TellsValues}
 use Rattle.world_steps.specs.Steps.{kept_report}
 use Rattle.world_steps.specs.Stands.{IsPeer}
 use Rattle.world_steps.proofs.Runs.{events_are, heard_is}
 use Rattle.world_steps.proofs.Joins.{Run}
 use Rattle.world_steps.proofs.Happenings.{runs}
-use Rattle.world_steps.proofs.Pairs.{joined_parts, pair_of, whole_seen, prefix_seen, replica_seen}
+use Rattle.world_steps.proofs.Pairs.{joined_parts, pair_of, whole_seen, values_known, prefix_seen, replica_seen}
 
 -- what is seen of each joined peer is its replica
 abbrev SeesReplicas : Scene → World → ℤ → Type 0
@@ -77,6 +78,12 @@ sees_replicas s es b valid h r a joined = replica_seen s (world packet_form s es
 pub world_report : (s : Scene) (es : List WorldEvent) (b : ℤ) → IsValidScene s → Happened s es → report_of (peer_of s b) (accepted_at packet_form s (world packet_form s es) b) ≡ reported packet_form s (world packet_form s es) b
 world_report s es b valid h = report_same s (world packet_form s es) b (sees_replicas s es b valid h (runs s valid es h))
 
+-- after a frame since which nothing changed, with nothing in flight, the report has each on-change value that the peer may see
+pub values_reported : (s : Scene) (es : List WorldEvent) (a b : ℤ) → IsValidScene s → Happened s es → is_joined (world packet_form s es) a b ≡ true → TellsValues s (world packet_form s es) a b (reported packet_form s (world packet_form s es) b)
+values_reported s es a b valid h joined quiet framed =
+    let w = world packet_form s es in
+    subst (ReportsValues (peer_of s a) (accepted_at packet_form s w a) b) (world_report s es b valid h) (values_known s w a b valid (runs s valid es h) (joined_parts w a b joined) quiet framed).reported
+
 -- what is kept of a peer reports so
 pub kept_same : (s : Scene) (es : List WorldEvent) (b : ℤ) (k : Kept) → IsValidScene s → Happened s es → IsPeer s (world packet_form s es) b k → kept_report k ≡ reported packet_form s (world packet_form s es) b
 kept_same s es b k valid h p =
@@ -94,5 +101,7 @@ replicas_settle s valid es h a b joined =
     record {
       prefix = prefix_seen s w a b valid r (pair_of s es a b valid h r joined);
       all_visible = whole_seen s w a b valid r (joined_parts w a b joined);
+      values = λ quiet framed. (values_known s w a b valid r (joined_parts w a b joined) quiet framed).seen;
       told = world_report s es b valid h;
+      reports = values_reported s es a b valid h joined;
     }

@@ -1,5 +1,5 @@
 -- What holds of every world that a script of built events makes: each event of a peer was accepted, and each way of a link has the changes that its sender told.
-use Rattle.std.proofs.Common.{◌≡◌, ℕ, ◌+◌, ◌≤◌, ℤ, Bool, true, false, not, ◌&&◌, ◌||◌, List, [], ◌∷◌, ◌++◌, length, map, reverse, refl, sym, ap, ap₂, ◌∙◌, subst, arith, Option, Some, None}
+use Rattle.std.proofs.Common.{◌≡◌, ℕ, ◌≤◌, ℤ, Bool, true, false, not, ◌&&◌, ◌||◌, List, [], ◌∷◌, ◌++◌, length, map, reverse, refl, sym, ap, ap₂, ◌∙◌, subst, arith, Option, Some, None}
 use Rattle.std.specs.Prelude.{is_none, nat_lt, if◌then◌else◌}
 use Rattle.std.specs.List.{list_all}
 use Rattle.std.specs.Ordering.{int_eq}
@@ -11,9 +11,8 @@ use Rattle.scene_model.specs.declared.event.Op.{Op as Operation}
 use Rattle.scene_model.specs.declared.event.Event.{Event}
 use Rattle.scene_model.specs.declared.event.Event.TheVariants as event
 use Rattle.scene_model.specs.Valid.{IsValidScene}
-use Rattle.peer_model.specs.Heard.{Who, Heard, comes, server}
+use Rattle.peer_model.specs.Heard.{Who, Heard, server}
 use Rattle.peer_model.specs.Peers.{is_up, was_up, peers_up}
-use Rattle.peer_model.specs.Changes.{changes}
 use Rattle.peer_model.specs.View.{updates_from}
 use Rattle.peer_model.specs.Refusals.{refusal_of}
 use Rattle.peer_model.specs.Faults.{fault_of}

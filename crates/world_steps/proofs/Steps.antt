@@ -1,11 +1,10 @@
 -- What any built event makes of a world is what the definitions say.
-use Rattle.std.proofs.Common.{◌≡◌, true, false, sym}
+use Rattle.std.proofs.Common.{◌≡◌, true, sym}
 use Rattle.std.proofs.lemmas.Bool.{true≢false}
 use Rattle.scene_model.specs.declared.scene.Scene.{Scene}
 use Rattle.scene_model.specs.declared.world.WorldEvent.{WorldEvent}
 use Rattle.scene_model.specs.declared.world.WorldEvent.TheVariants.{Connect, Down, Op, Rel}
 use Rattle.world_model.specs.World.{World}
-use Rattle.world_model.specs.Happens.{world}
 use Rattle.world_steps.specs.Sound.{is_built_event}
 use Rattle.world_steps.specs.Steps.{Parts, made}
 use Rattle.world_steps.proofs.Answered.{RightAt, Before}

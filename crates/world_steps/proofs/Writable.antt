@@ -58,13 +58,13 @@ value_short v h =
     let short = leb-true (tree_size (plain v)) 65536 h in
     omega (arith, small_written_size (plain v), no_longer (plain v), short)
 
-values_short : (vs : List Variant) → list_all fits vs ≡ true → length (written_values vs) ≤ 65536 * length vs
+pub values_short : (vs : List Variant) → list_all fits vs ≡ true → length (written_values vs) ≤ 65536 * length vs
 values_short [] h = omega arith
 values_short (v ∷ vs) h =
     let p = and_parts (fits v) (list_all fits vs) h in
     omega (arith, length-append (written_value v) (written_values vs), value_short v p.0, values_short vs p.1)
 
-values_sound : (vs : List Variant) → list_all is_sound vs ≡ true → AreSound vs
+pub values_sound : (vs : List Variant) → list_all is_sound vs ≡ true → AreSound vs
 values_sound [] h = tt
 values_sound (v ∷ vs) h = let p = and_parts (is_sound v) (list_all is_sound vs) h in (p.0, values_sound vs p.1)
 
@@ -111,13 +111,17 @@ name_fits name named text =
 
 -- the spawner's id
 
-id_small : (s : Scene) → IsValidScene s → (id : ℕ) → is_none (fixed_node_at s id) ≡ false → id < 2 ^ 32
-id_small s v zero h = omega arith
-id_small s v (suc i) h = step (fixed_node_at s (suc i)) refl h
+-- a fixed node has a small path id
+pub path_id_small : (s : Scene) → IsValidScene s → (id : ℕ) → is_none (fixed_node_at s id) ≡ false → id ≤ 4096
+path_id_small s v zero h = omega arith
+path_id_small s v (suc i) h = step (fixed_node_at s (suc i)) refl h
   where
-    step : (o : Option Node) → fixed_node_at s (suc i) ≡ o → is_none o ≡ false → suc i < 2 ^ 32
+    step : (o : Option Node) → fixed_node_at s (suc i) ≡ o → is_none o ≡ false → suc i ≤ 4096
     step None e k = absurd (cc k)
     step (Some n) e k = let below = got_within s.nodes i n e in let few = nodes_few s v in omega (arith, below, few)
+
+id_small : (s : Scene) → IsValidScene s → (id : ℕ) → is_none (fixed_node_at s id) ≡ false → id < 2 ^ 32
+id_small s v id h = let low = path_id_small s v id h in omega (arith, low)
 
 -- at any place there are few synchronizers, and few properties
 few_of : (s : Scene) → IsValidScene s → (place : Option ℕ) → AreFew (syncs_at s place)

@@ -1,5 +1,6 @@
 pub mod Sound
 pub mod Pairs
+pub mod Framed
 pub mod Scripts
 pub mod Steps
 pub mod Stands

@@ -1,5 +1,5 @@
 -- What holds between two peers that are joined.
-use Rattle.std.specs.Prelude.{◌≡◌, ℤ, true, false, List, [], ◌∷◌, ◌++◌, map, filter, filter_map, take, Contains, Option, Some, None, Result, Ok, if◌then◌else◌}
+use Rattle.std.specs.Prelude.{◌≡◌, ℤ, false, List, [], ◌∷◌, ◌++◌, map, filter, filter_map, take, Contains, Option, Some, None, Result, Ok, if◌then◌else◌}
 use Rattle.std.specs.List.{AllByRecursion}
 use Rattle.gd_variant.specs.declared.message.Plain.{Plain}
 use Rattle.gd_variant.specs.declared.message.Message.{Message}

@@ -1,4 +1,5 @@
 //! Laws of every session of built events.
+ghost use Rattle.world_steps.specs.Framed.{StillLeaves};
 ghost use Rattle.world_steps.specs.Scripts.{NoneIsFault, PairsHold, ReplicasSettle};
 ghost use Rattle.world_steps.specs.Stands.{StepsAreRight};
 
@@ -13,10 +14,16 @@ pub fn none_is_fault()
     ensures { NoneIsFault }
 {}
 
-/// What a peer sees of another that it is joined with is what the delivered prefix of the other's changes makes, and
-/// all visible rows, whole, once nothing is in flight; and so it reports it.
+/// What a peer sees of another that it is joined with is what the delivered prefix of the other's changes makes; once
+/// nothing is in flight it is all visible rows, and, after a frame since which nothing changed, each visible on-change
+/// value; and so it reports it.
 pub fn replicas_settle()
     ensures { ReplicasSettle }
+{}
+
+/// An event that spawns, despawns, sets and assigns nothing changes nothing that a peer may be told.
+pub fn still_leaves()
+    ensures { StillLeaves }
 {}
 
 /// What an event makes of what a world keeps is what the definitions say.

@@ -3,4 +3,4 @@
 
 mod laws;
 
-pub use laws::{none_is_fault, pairs_hold, replicas_settle, steps_are_right};
+pub use laws::{none_is_fault, pairs_hold, replicas_settle, steps_are_right, still_leaves};
