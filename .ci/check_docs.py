@@ -1,5 +1,5 @@
-"""Checks the documents against the repository: names in backquotes are there, and command lines that are shown with
-their output give that output. It needs the built programs and no prover. The last line is 'N passed, M failed'."""
+"""Checks the documents against the repository: names in backquotes are there, code that is quoted stands in a source as
+it is quoted, and command lines that are shown with their output give that output. It needs the built programs and no prover. The last line is 'N passed, M failed'."""
 import os
 import pathlib
 import re
@@ -51,16 +51,23 @@ def shown_commands(path):
                 yield command, output
 
 
+def quoted_problems(path, sources):
+    for block in re.findall(r"^```rust\n(.*?)^```", path.read_text(encoding="utf-8"), flags=re.M | re.S):
+        if not any(block in source for source in sources):
+            yield f"this code stands in no source:\n{block}"
+
+
 def main():
     passed = failed = 0
     words = known_words()
+    sources = [path.read_text(encoding="utf-8") for path in tracked(".rt")]
     with tempfile.TemporaryDirectory() as folder:
         for name in PROGRAMS:
             program = os.environ.get(name.upper(), TOP / "crates" / name / "out" / name)
             os.symlink(program, pathlib.Path(folder, name))
         environment = dict(os.environ, PATH=folder + os.pathsep + os.environ["PATH"])
         for path in DOCS:
-            problems = list(names_problems(path, words))
+            problems = list(names_problems(path, words)) + list(quoted_problems(path, sources))
             for command, output in shown_commands(path):
                 done = subprocess.run(["bash", "-c", command], cwd=TOP, env=environment, stdin=subprocess.DEVNULL, stdout=subprocess.PIPE, stderr=subprocess.STDOUT)
                 if done.stdout.decode() != output:

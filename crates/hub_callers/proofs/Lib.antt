@@ -1,0 +1,3 @@
+pub mod Allowing
+pub mod Own
+pub mod Shuffling
